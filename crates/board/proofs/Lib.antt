@@ -1,0 +1,9 @@
+pub mod Lists
+pub mod Row
+pub mod Reach
+pub mod Test
+pub mod Search
+pub mod Fine
+pub mod Alter
+pub mod Five
+pub mod Examples

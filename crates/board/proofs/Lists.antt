@@ -1,0 +1,89 @@
+-- Laws of tests and of lists, each by going down the list: what passes somewhere, what a map keeps, and what stands in a built list.
+use mathlib.Core.Path.{_≡_, refl, sym, ap, _∙_}
+use mathlib.Core.Logic.{_⊎_, inl, inr, ⊎-elim}
+use mathlib.Core.List.{List, [], _∷_, map}
+use mathlib.Core.Bool.{Bool, true, false, _||_, false≢true}
+use Prim.Native.Nat.{ℕ, zero, suc, _+_, _<_}
+use native.Mathlib.Nat.{le-of-suc-le-suc, not-suc-le-zero, eq-or-lt-of-le, lt-of-lt-of-le}
+use native.Mathlib.Numerals.{add-one}
+use lib.ListN.{length, getD, length-append, List·getD-append}
+use lib.Seq.{getD-at}
+use Rattle.board.specs.Lists.{_among_, somewhere, build}
+
+-- which way a test goes
+pub way : (t : Bool) → (t ≡ true) ⊎ (t ≡ false)
+way true = inl refl
+way false = inr refl
+
+-- no test goes both ways
+pub clash : {A : Type 0} (t : Bool) → t ≡ true → t ≡ false → A
+clash t e f = absurd (false≢true (sym f ∙ e))
+
+pub or-false : (a b : Bool) → (a || b) ≡ false → (a ≡ false) × (b ≡ false)
+or-false true b e = (e, cc)
+or-false false b e = (refl, e)
+
+pub or-true : (a b : Bool) → (a || b) ≡ true → (a ≡ true) ⊎ (b ≡ true)
+or-true true b e = inl refl
+or-true false b e = inr e
+
+pub or-right : (a b : Bool) → b ≡ true → (a || b) ≡ true
+or-right true b e = refl
+or-right false b e = e
+
+-- two maps agree where they agree at each element
+pub map-same : (f g : ℕ → ℕ) (xs : List ℕ) → ((x : ℕ) → x among xs → f x ≡ g x) → map f xs ≡ map g xs
+map-same f g [] h = refl
+map-same f g (x ∷ xs) h = cc (h x (inl refl), map-same f g xs (λ y m. h y (inr m)))
+
+pub among-map : (f : ℕ → ℕ) (xs : List ℕ) (x : ℕ) → x among xs → f x among map f xs
+among-map f [] x m = absurd m
+among-map f (y ∷ ys) x (inl e) = inl (ap f e)
+among-map f (y ∷ ys) x (inr m) = inr (among-map f ys x m)
+
+pub somewhere-same : (s t : ℕ → Bool) (xs : List ℕ) → ((x : ℕ) → x among xs → s x ≡ t x) → somewhere s xs ≡ somewhere t xs
+somewhere-same s t [] h = refl
+somewhere-same s t (x ∷ xs) h = cc (h x (inl refl), somewhere-same s t xs (λ y m. h y (inr m)))
+
+pub somewhere-map : (t : ℕ → Bool) (f : ℕ → ℕ) (xs : List ℕ) → somewhere t (map f xs) ≡ somewhere (λ x. t (f x)) xs
+somewhere-map t f [] = refl
+somewhere-map t f (x ∷ xs) = cc (somewhere-map t f xs)
+
+pub nowhere : (t : ℕ → Bool) (xs : List ℕ) → somewhere t xs ≡ false → (x : ℕ) → x among xs → t x ≡ false
+nowhere t [] e x m = absurd m
+nowhere t (y ∷ ys) e x (inl q) = ap t q ∙ or-false (t y) (somewhere t ys) e .0
+nowhere t (y ∷ ys) e x (inr m) = nowhere t ys (or-false (t y) (somewhere t ys) e .1) x m
+
+pub passes-somewhere : (t : ℕ → Bool) (xs : List ℕ) (x : ℕ) → x among xs → t x ≡ true → somewhere t xs ≡ true
+passes-somewhere t [] x m e = absurd m
+passes-somewhere t (y ∷ ys) x (inl q) e = cc
+passes-somewhere t (y ∷ ys) x (inr m) e = or-right (t y) (somewhere t ys) (passes-somewhere t ys x m e)
+
+pub where-passes : (t : ℕ → Bool) (xs : List ℕ) → somewhere t xs ≡ true → (x : ℕ) × (x among xs) × (t x ≡ true)
+where-passes t [] e = absurd (false≢true e)
+where-passes t (y ∷ ys) e =
+    ⊎-elim (λ q. (y, inl refl, q)) (λ q. let (x, m, r) = where-passes t ys q in (x, inr m, r)) (or-true (t y) (somewhere t ys) e)
+
+-- induction from all lower numbers
+pub lower : (P : ℕ → Type 0) → ((i : ℕ) → ((j : ℕ) → j < i → P j) → P i) → (i : ℕ) → P i
+lower P step i = step i (go i)
+  where
+    go : (n j : ℕ) → j < n → P j
+    go zero j h = absurd (not-suc-le-zero h)
+    go (suc n) j h = step j (λ k l. go n k (lt-of-lt-of-le l (le-of-suc-le-suc h)))
+
+-- a list that is built from the front: its length, and what stands at each place
+module _ (f : ℕ → List ℕ → ℕ) where
+  pub build-length : (n : ℕ) → length (build f n) ≡ n
+  unfolding build
+  build-length zero = refl
+  build-length (suc n) = simp (length-append, build-length n, add-one)
+
+  pub build-at : (n i : ℕ) → i < n → getD (build f n) i 0 ≡ f i (build f i)
+  unfolding build
+  build-at zero i h = absurd (not-suc-le-zero h)
+  build-at (suc n) i h =
+      ⊎-elim
+      (λ (e : i ≡ n). rw e (getD-at (build f n) _ [] 0 n (build-length n)))
+      (λ l. List·getD-append (build f n) _ 0 i (rw (build-length n) l) ∙ build-at n i l)
+      (eq-or-lt-of-le (le-of-suc-le-suc h))

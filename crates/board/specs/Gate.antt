@@ -1,0 +1,54 @@
+-- What a line's value is: document 01's table of kinds, and what a fault does to it.
+use mathlib.Core.List.{List, [], _∷_}
+use mathlib.Core.Bool.{Bool, false, not, cond}
+use Prim.Native.Nat.{ℕ, _/_, _%_, _^_}
+use lib.Dec.{eqb, ltb}
+use lib.ListN.{length, getD, set}
+use Rattle.board.specs.Lists.{bit, ones}
+use Rattle.board.specs.Row.{Rule}
+use Rattle.board.specs.declared.Fault.{Fault}
+use Rattle.board.specs.declared.Fault.the-variants.{Sound, Line, Pin}
+
+-- what each kind from 0 up asks of n pins, of which s are 1: that all are (for a buffer, its one), that some are, that exactly one is
+unfoldable pub kinds : ℕ → ℕ → List Bool
+kinds n s =
+    let all = eqb s n in
+    let some = ltb 0 s in
+    let one = eqb s 1 in
+    false ∷ all ∷ not all ∷ all ∷ not all ∷ some ∷ not some ∷ one ∷ not one ∷ []
+
+abbrev pub asks : ℕ → ℕ → ℕ → Bool
+asks k n s = getD (kinds n s) k false
+
+-- the value of a gate of kind k from its pins' values
+abbrev pub gate : ℕ → List ℕ → ℕ
+gate k vs = bit (asks k (length vs) (ones vs))
+
+-- bit i of a pattern, bit 0 the lowest
+abbrev pub bitOf : ℕ → ℕ → ℕ
+bitOf x i = x / 2 ^ i % 2
+
+-- the good board under pattern x: an input has the pattern's bit, a gate its kind's value
+abbrev pub good : ℕ → Rule
+good x i k vs = cond (eqb k 0) (bitOf x i) (gate k vs)
+
+-- the line that a fault is on, and the value that it is held at
+abbrev pub site : Fault → ℕ
+site Sound = 0
+site (Line l s) = l
+site (Pin l p s) = l
+
+abbrev pub stuck : Fault → ℕ
+stuck Sound = 0
+stuck (Line l s) = s
+stuck (Pin l p s) = s
+
+-- the rule F under a fault, where a value v that is held at s becomes `hold s v`
+abbrev pub under : (ℕ → ℕ → ℕ) → Fault → Rule → Rule
+under hold Sound F i = F i
+under hold (Line l s) F i = cond (eqb i l) (λ k vs. hold s (F i k vs)) (F i)
+under hold (Pin l p s) F i = cond (eqb i l) (λ k vs. F i k (set vs p (hold s (getD vs p 0)))) (F i)
+
+-- the faulty board under pattern x: what is held has the stuck value
+abbrev pub faulty : Fault → ℕ → Rule
+faulty φ x = under (λ s v. s) φ (good x)

@@ -1,0 +1,11 @@
+pub mod Lists
+pub mod Limits
+pub mod Board
+pub mod Row
+pub mod Gate
+pub mod Reach
+pub mod Test
+pub mod Book
+pub mod Fine
+pub mod Alter
+pub mod Five
