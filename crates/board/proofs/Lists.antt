@@ -1,10 +1,10 @@
 -- Laws of tests and of lists, each by going down the list: what passes somewhere, what a map keeps, and what stands in a built list.
 use mathlib.Core.Path.{_≡_, refl, sym, ap, _∙_}
 use mathlib.Core.Logic.{_⊎_, inl, inr, ⊎-elim}
-use mathlib.Core.List.{List, [], _∷_, map}
+use mathlib.Core.List.{List, [], _∷_, _++_, map}
 use mathlib.Core.Bool.{Bool, true, false, _||_, false≢true}
 use Prim.Native.Nat.{ℕ, zero, suc, _+_, _<_}
-use native.Mathlib.Nat.{le-of-suc-le-suc, not-suc-le-zero, eq-or-lt-of-le, lt-of-lt-of-le}
+use native.Mathlib.Nat.{le-of-suc-le-suc, not-suc-le-zero, eq-or-lt-of-le, lt-of-lt-of-le, le-step, le-refl}
 use native.Mathlib.Numerals.{add-one}
 use lib.ListN.{length, getD, length-append, List·getD-append}
 use lib.Seq.{getD-at}
@@ -41,6 +41,12 @@ among-map f [] x m = absurd m
 among-map f (y ∷ ys) x (inl e) = inl (ap f e)
 among-map f (y ∷ ys) x (inr m) = inr (among-map f ys x m)
 
+among-end : (xs : List ℕ) (y x : ℕ) → x among (xs ++ (y ∷ [])) → (x among xs) ⊎ (x ≡ y)
+among-end [] y x (inl e) = inr e
+among-end [] y x (inr m) = absurd m
+among-end (z ∷ zs) y x (inl e) = inl (inl e)
+among-end (z ∷ zs) y x (inr m) = ⊎-elim (λ h. inl (inr h)) inr (among-end zs y x m)
+
 pub somewhere-same : (s t : ℕ → Bool) (xs : List ℕ) → ((x : ℕ) → x among xs → s x ≡ t x) → somewhere s xs ≡ somewhere t xs
 somewhere-same s t [] h = refl
 somewhere-same s t (x ∷ xs) h = cc (h x (inl refl), somewhere-same s t xs (λ y m. h y (inr m)))
@@ -72,7 +78,7 @@ lower P step i = step i (go i)
     go zero j h = absurd (not-suc-le-zero h)
     go (suc n) j h = step j (λ k l. go n k (lt-of-lt-of-le l (le-of-suc-le-suc h)))
 
--- a list that is built from the front: its length, and what stands at each place
+-- a list that is built from the front: its length, what stands at each place, and where what stands in it does
 module _ (f : ℕ → List ℕ → ℕ) where
   pub build-length : (n : ℕ) → length (build f n) ≡ n
   unfolding build
@@ -87,3 +93,12 @@ module _ (f : ℕ → List ℕ → ℕ) where
       (λ (e : i ≡ n). rw e (getD-at (build f n) _ [] 0 n (build-length n)))
       (λ l. List·getD-append (build f n) _ 0 i (rw (build-length n) l) ∙ build-at n i l)
       (eq-or-lt-of-le (le-of-suc-le-suc h))
+
+  pub among-build : (n x : ℕ) → x among build f n → (j : ℕ) × (j < n) × (x ≡ f j (build f j))
+  unfolding build
+  among-build zero x m = absurd m
+  among-build (suc n) x m =
+      ⊎-elim
+      (λ h. let (j, l, e) = among-build n x h in (j, le-step l, e))
+      (λ e. (n, le-refl (suc n), e))
+      (among-end (build f n) (f n (build f n)) x m)

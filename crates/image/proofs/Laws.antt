@@ -1,0 +1,6 @@
+pub mod Bytes
+pub mod Records
+pub mod Answer
+pub mod Check
+pub mod Fine
+pub mod Long

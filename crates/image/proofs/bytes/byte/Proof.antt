@@ -1,0 +1,22 @@
+-- `image::bytes::byte` meets its contract: past the end a byte is 0.
+use mathlib.Core.Path.{sym}
+use lib.Dec.{lit<}
+use lib.ListN.{List·getD-eq-default}
+use borrow.Author.Needs.{needs}
+use Rattle.image.proofs.bytes.byte.Statement.{statement}
+use Rattle.image.proofs.bytes.byte.Tie as tie
+
+shared-slice-read-wide : tie.Need-shared-slice-read-wide
+shared-slice-read-wide c = search needs
+
+wide-requires : tie.Need-wide-requires
+wide-requires c κs = search needs
+
+returns : tie.Need-returns
+returns c = search needs
+
+returns-2 : tie.Need-returns-2
+returns-2 c = (sym (List·getD-eq-default (c .before .before .args .s .now) 0 (c .if1 .left)), lit< tt)
+
+pub byte-spec : {M : Type 1} → statement M
+byte-spec = tie.close (tie.spec shared-slice-read-wide wide-requires returns returns-2)

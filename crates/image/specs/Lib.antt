@@ -1,0 +1,5 @@
+pub mod Bytes
+pub mod Image
+pub mod Refusals
+pub mod Scan
+pub mod Check
