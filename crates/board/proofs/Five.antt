@@ -12,7 +12,7 @@ use borrow.Author.Tests.{eqb-true, not-false}
 use Rattle.board.specs.Lists.{_among_, somewhere, bit, ones}
 use Rattle.board.specs.Board.{Board, recordOf, Low}
 use Rattle.board.specs.Row.{value}
-use Rattle.board.specs.Gate.{asks, gate, bitOf, good, faulty, stuck}
+use Rattle.board.specs.Gate.{asks, gate, bitOf, good, faulty, stuck, heldPins, heldLine}
 use Rattle.board.specs.Five.{goodHalf, faultyHalf, pair, agreed, everyFilling, gate5, hold5, five, partial, Completes}
 use Rattle.board.specs.declared.Fault.{Fault}
 use Rattle.board.specs.declared.Fault.the-variants.{Sound, Line, Pin}
@@ -125,20 +125,21 @@ module _ {X : Type 0} where
   pin-fits s b zero (more a rest) = more (hold-fits s b a) rest
   pin-fits s b (suc p) (more a rest) = more a (pin-fits s b p rest)
 
+  held-pins-fit : (φ : Fault) → stuck φ < 2 → (i : ℕ) {vs gs hs : List ℕ} → FitsAll X vs gs hs
+      → FitsAll X (heldPins hold5 φ i vs) gs (heldPins (λ s v. s) φ i hs)
+  held-pins-fit Sound b i f = f
+  held-pins-fit (Line l s) b i f = f
+  held-pins-fit (Pin l p s) b i f = ⊎-elim (λ (e : eqb i l ≡ true). rw e (pin-fits s b p f)) (λ (e : eqb i l ≡ false). rw e f) (way (eqb i l))
+
+  held-line-fits : (φ : Fault) → stuck φ < 2 → (i : ℕ) {v g h : ℕ} → Fits X v g h → Fits X (heldLine hold5 φ i v) g (heldLine (λ s u. s) φ i h)
+  held-line-fits Sound b i f = f
+  held-line-fits (Line l s) b i f = ⊎-elim (λ (e : eqb i l ≡ true). rw e (hold-fits s b f)) (λ (e : eqb i l ≡ false). rw e f) (way (eqb i l))
+  held-line-fits (Pin l p s) b i f = f
+
   -- one fact for every kind of line and every sort of fault
   rule-fits : (φ : Fault) (start : ℕ → ℕ) (x : ℕ) → stuck φ < 2 → Starts X start x → (i k : ℕ) {vs gs hs : List ℕ} → FitsAll X vs gs hs
       → Fits X (five φ start i k vs) (good x i k gs) (faulty φ x i k hs)
-  rule-fits Sound start x b ok i k f = good-fits start x ok i k f
-  rule-fits (Line l s) start x b ok i k f =
-      ⊎-elim
-      (λ (e : eqb i l ≡ true). rw e (hold-fits s b (good-fits start x ok i k f)))
-      (λ (e : eqb i l ≡ false). rw e (good-fits start x ok i k f))
-      (way (eqb i l))
-  rule-fits (Pin l p s) start x b ok i k f =
-      ⊎-elim
-      (λ (e : eqb i l ≡ true). rw e (good-fits start x ok i k (pin-fits s b p f)))
-      (λ (e : eqb i l ≡ false). rw e (good-fits start x ok i k f))
-      (way (eqb i l))
+  rule-fits φ start x b ok i k f = held-line-fits φ b i (good-fits start x ok i k (held-pins-fit φ b i f))
 
   map-fits : (u g h : ℕ → ℕ) (ps : List ℕ) → ((p : ℕ) → p among ps → Fits X (u p) (g p) (h p)) → FitsAll X (map u ps) (map g ps) (map h ps)
   map-fits u g h [] k = none
@@ -149,7 +150,7 @@ module _ {X : Type 0} where
       → (i : ℕ) → Fits X (value (five φ start) b i) (value (good x) b i) (value (faulty φ x) b i)
   five-fits b low φ start x s ok = lower _ (λ i ih.
       rw (value-is (five φ start) b low i, value-is (good x) b low i, value-is (faulty φ x) b low i)
-      (rule-fits φ start x s ok i _ (map-fits _ _ _ (recordOf b i .pins) (λ p m. ih p (low i p m)))))
+      (rule-fits φ start x s ok i (recordOf b i .kind) (map-fits _ _ _ (recordOf b i .pins) (λ p m. ih p (low i p m)))))
 
 -- the inputs of a partial pattern fit every completion
 pub partial-fits : (named values x : ℕ) → Completes x named values → Starts (Unit {0}) (partial named values) x

@@ -1,14 +1,15 @@
 -- Laws of tests and of lists, each by going down the list: what passes somewhere, what a map keeps, and what stands in a built list.
 use mathlib.Core.Path.{_≡_, refl, sym, ap, _∙_}
 use mathlib.Core.Logic.{_⊎_, inl, inr, ⊎-elim}
-use mathlib.Core.List.{List, [], _∷_, _++_, map}
+use mathlib.Core.List.{List, [], _∷_, _++_, map, append-assoc}
 use mathlib.Core.Bool.{Bool, true, false, _||_, false≢true}
 use Prim.Native.Nat.{ℕ, zero, suc, _+_, _<_}
-use native.Mathlib.Nat.{le-of-suc-le-suc, not-suc-le-zero, eq-or-lt-of-le, lt-of-lt-of-le, le-step, le-refl}
+use native.Mathlib.Nat.{le-of-suc-le-suc, not-suc-le-zero, eq-or-lt-of-le, lt-of-lt-of-le, le-step, le-refl, add-zero, add-suc}
 use native.Mathlib.Numerals.{add-one}
-use lib.ListN.{length, getD, length-append, List·getD-append}
-use lib.Seq.{getD-at}
-use Rattle.board.specs.Lists.{_among_, somewhere, build}
+use native.Mathlib.Omega.{arith}
+use lib.ListN.{length, getD, take, set, length-append, List·getD-append}
+use lib.Seq.{getD-at, take-suc-set, take-length}
+use Rattle.board.specs.Lists.{_among_, somewhere, build, grow}
 
 -- which way a test goes
 pub way : (t : Bool) → (t ≡ true) ⊎ (t ≡ false)
@@ -102,3 +103,24 @@ module _ (f : ℕ → List ℕ → ℕ) where
       (λ h. let (j, l, e) = among-build n x h in (j, le-step l, e))
       (λ e. (n, le-refl (suc n), e))
       (among-end (build f n) (f n (build f n)) x m)
+
+  -- a list that grows: its length, and that what grows from a right beginning is right
+  pub grow-length : (r : List ℕ) (k : ℕ) → length (grow f r k) ≡ length r + k
+  unfolding grow
+  grow-length r zero = omega arith
+  grow-length r (suc k) = simp length-append (omega (arith, grow-length r k))
+
+  pub grow-build : (m k : ℕ) → grow f (build f m) k ≡ build f (m + k)
+  unfolding grow build
+  grow-build m zero = rw add-zero
+  grow-build m (suc k) = rw (add-suc, grow-build m k, build-length m)
+
+  -- one more store of the loop that grows a list in a part behind it, and the end of the loop
+  pub grow-store : (before part : List ℕ) (i v : ℕ) → i < length part → before ++ take i part ≡ grow f before i
+      → v ≡ f (length before + i) (before ++ take i part) → before ++ take (i + 1) (set part i v) ≡ grow f before (i + 1)
+  unfolding grow
+  grow-store before part i v h e q =
+      rw (add-one, take-suc-set part i v h, ← (append-assoc before (take i part) (v ∷ [])), q, e)
+
+  pub grow-done : (before part : List ℕ) (i : ℕ) → i ≡ length part → before ++ take i part ≡ grow f before i → before ++ part ≡ grow f before (length part)
+  grow-done before part i h e = rw (h, take-length) at e

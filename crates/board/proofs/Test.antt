@@ -1,6 +1,6 @@
 -- A fault that an alteration does not touch is shown by the same patterns before and after: at each output either the altered line
 -- does not reach it, and no value there changes, or the fault does not, and nothing differs there on either board.
-use mathlib.Core.Path.{_≡_, refl, _∙_, sym}
+use mathlib.Core.Path.{_≡_, refl, _∙_, sym, fun-ext}
 use mathlib.Core.Logic.{⊎-elim}
 use mathlib.Core.Bool.{true, false}
 use Prim.Native.Nat.{ℕ}
@@ -20,8 +20,8 @@ use Rattle.board.proofs.Reach.{OffBy, unreached, reach-is}
 -- a fault changes the rule at its line alone
 under-off : (hold : ℕ → ℕ → ℕ) (φ : Fault) (F : Rule) (i : ℕ) → (i ≡ site φ → ⊥) → F i ≡ under hold φ F i
 under-off hold Sound F i ne = refl
-under-off hold (Line l s) F i ne = rw (ne-eqb i l ne)
-under-off hold (Pin l p s) F i ne = rw (ne-eqb i l ne)
+under-off hold (Line l s) F i ne = fun-ext (λ k. fun-ext (λ vs. rw (ne-eqb i l ne)))
+under-off hold (Pin l p s) F i ne = fun-ext (λ k. fun-ext (λ vs. rw (ne-eqb i l ne)))
 
 -- an output that the fault's line does not reach does not show the fault
 pub hidden : (b : Board) → Low b → (φ : Fault) (x o : ℕ) → reach b (site φ) o ≡ false → value (good x) b o ≡ value (faulty φ x) b o

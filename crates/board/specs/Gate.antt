@@ -43,11 +43,22 @@ stuck Sound = 0
 stuck (Line l s) = s
 stuck (Pin l p s) = s
 
--- the rule F under a fault, where a value v that is held at s becomes `hold s v`
-abbrev pub under : (ℕ → ℕ → ℕ) → Fault → Rule → Rule
-under hold Sound F i = F i
-under hold (Line l s) F i = cond (eqb i l) (λ k vs. hold s (F i k vs)) (F i)
-under hold (Pin l p s) F i = cond (eqb i l) (λ k vs. F i k (set vs p (hold s (getD vs p 0)))) (F i)
+module _ (hold : ℕ → ℕ → ℕ) where
+  -- what line i's gate reads on its pins: a pin that is held at s reads `hold s v` for v
+  abbrev pub heldPins : Fault → ℕ → List ℕ → List ℕ
+  heldPins Sound i vs = vs
+  heldPins (Line l s) i vs = vs
+  heldPins (Pin l p s) i vs = cond (eqb i l) (set vs p (hold s (getD vs p 0))) vs
+
+  -- what line i gives: a line that is held at s gives `hold s v` for v
+  abbrev pub heldLine : Fault → ℕ → ℕ → ℕ
+  heldLine Sound i v = v
+  heldLine (Line l s) i v = cond (eqb i l) (hold s v) v
+  heldLine (Pin l p s) i v = v
+
+  -- the rule F under a fault
+  abbrev pub under : Fault → Rule → Rule
+  under φ F i k vs = heldLine φ i (F i k (heldPins φ i vs))
 
 -- the faulty board under pattern x: what is held has the stuck value
 abbrev pub faulty : Fault → ℕ → Rule

@@ -5,6 +5,7 @@ use mathlib.Core.List.{List, [], _∷_, _++_}
 use mathlib.Core.Bool.{Bool, false, _||_}
 use Prim.Native.Nat.{ℕ, zero, suc, _+_}
 use lib.Dec.{ltb}
+use lib.ListN.{length}
 use mir.Val.{boolByte}
 
 infix 50 _among_
@@ -35,3 +36,8 @@ on v = ltb 0 v
 unfoldable pub build : (ℕ → List ℕ → ℕ) → ℕ → List ℕ
 build f zero = []
 build f (suc n) = build f n ++ (f n (build f n) ∷ [])
+
+-- a list and k numbers more, worked out in the same way
+unfoldable pub grow : (ℕ → List ℕ → ℕ) → List ℕ → ℕ → List ℕ
+grow f r zero = r
+grow f r (suc k) = grow f r k ++ (f (length r + k) (grow f r k) ∷ [])

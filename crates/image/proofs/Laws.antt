@@ -4,3 +4,4 @@ pub mod Answer
 pub mod Check
 pub mod Fine
 pub mod Long
+pub mod Calls

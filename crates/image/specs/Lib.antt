@@ -3,3 +3,4 @@ pub mod Image
 pub mod Refusals
 pub mod Scan
 pub mod Check
+pub mod Calls

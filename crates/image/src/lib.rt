@@ -1,4 +1,5 @@
 // The board image: its numbers, the refusals that it alone decides, and Check.
+pub mod asked;
 pub mod bytes;
 pub mod limits;
 pub mod outputs;
@@ -16,6 +17,12 @@ pub enum Refusal {
     Distance,
     Record { line: usize, field: usize },
     Output(usize),
+    Line,
+    Stuck,
+    Pattern,
+    Lent,
+    Alteration,
+    Row,
 }
 
 pub enum Checked {

@@ -40,6 +40,7 @@ pub record Passed (s : List ℕ) : Type 0 where
   pub no-bad-output : firstBadOutput s ≡ none
 
 pub passed : (s : List ℕ) → Accepted s → Passed s
+unfolding imageRefusals
 passed s ok =
     let apart = none-applies (imageRefusals s) ok in
     record {

@@ -14,8 +14,8 @@ use Rattle.board.specs.Limits.{mostLines, mostOutputs, longestNote}
 use Rattle.board.proofs.Lists.{way, or-false}
 use Rattle.image.specs.Bytes.{byteAt, wordAt, longAt}
 use Rattle.image.specs.Image.{lineCount, outputCount, distance, lastFour, theMark, fullDistance, longestImage}
-use Rattle.image.specs.Refusals.{given, unmarked, outside, miscounted, misplaced, answer}
-use Rattle.image.specs.Check.{checked}
+use Rattle.image.specs.Refusals.{given, unmarked, outside, miscounted, misplaced, imageRefusals, answer}
+use Rattle.image.specs.Check.{counts}
 use Rattle.image.proofs.Laws.Fine.{within}
 
 -- the last 12 bytes
@@ -63,7 +63,8 @@ far s long b =
 
 -- for an image longer than the longest good one the answer is 1, 2 or 3, worked out from its last 12 bytes alone
 pub long-says : (s : List ℕ) → longestImage < length s
-    → checked s ≡ answer (given (unmarked (lastTwelve s)) (1 ∷ []) ∷ given (miscounted (lastTwelve s)) (2 ∷ []) ∷ []) (3 ∷ [])
+    → answer (imageRefusals s) (counts s) ≡ answer (given (unmarked (lastTwelve s)) (1 ∷ []) ∷ given (miscounted (lastTwelve s)) (2 ∷ []) ∷ []) (3 ∷ [])
+unfolding imageRefusals
 long-says s long =
     let whole : 12 ≤ length s = omega arith in
     rw (same-marked s whole, same-counted s whole)

@@ -5,7 +5,7 @@ use mathlib.Core.Bool.{false}
 use borrow.Author.Needs.{needs}
 use Rattle.board.specs.Board.{inputs}
 use Rattle.image.specs.Image.{boardOf}
-use Rattle.image.specs.Refusals.{unmarked, miscounted, misplaced, firstBad}
+use Rattle.image.specs.Refusals.{unmarked, miscounted, misplaced, firstBad, imageRefusals}
 use Rattle.image.specs.Scan.{Scanned, place}
 use Rattle.image.proofs.Laws.Check.{says-first, says-counts, first-mark, first-counts, first-distance, first-record, first-output, accepted}
 use Rattle.image.proofs.check.Statement.{statement}
@@ -27,7 +27,7 @@ has-no-mark-requires c κs = search needs
 returns : tie.Need-returns
 returns c =
     let img = c .before .before .before .args .img .now in
-    record { answers = says-first img (first-mark img (sym (c .before .has-no-mark .ensures) ∙ c .if1 .taken)) }
+    record { answers = says-first img (imageRefusals img) (first-mark img (sym (c .before .has-no-mark .ensures) ∙ c .if1 .taken)) }
 
 has-bad-counts-requires : tie.Need-has-bad-counts-requires
 has-bad-counts-requires c κs = search needs
@@ -36,7 +36,7 @@ returns-2 : tie.Need-returns-2
 returns-2 c =
     let past = c .before .before in
     let img = past .before .before .before .args .img .now in
-    record { answers = says-first img (first-counts img (marked past) (sym (c .before .has-bad-counts .ensures) ∙ c .if2 .taken)) }
+    record { answers = says-first img (imageRefusals img) (first-counts img (marked past) (sym (c .before .has-bad-counts .ensures) ∙ c .if2 .taken)) }
 
 has-bad-distance-requires : tie.Need-has-bad-distance-requires
 has-bad-distance-requires c κs = search needs
@@ -46,7 +46,7 @@ returns-3 c =
     let past = c .before .before in
     let img = past .before .before .before .before .before .args .img .now in
     record {
-      answers = says-first img (first-distance img (marked (past .before .before)) (counted past) (sym (c .before .has-bad-distance .ensures) ∙ c .if3 .taken));
+      answers = says-first img (imageRefusals img) (first-distance img (marked (past .before .before)) (counted past) (sym (c .before .has-bad-distance .ensures) ∙ c .if3 .taken));
     }
 
 scan-records-requires : tie.Need-scan-records-requires
@@ -80,7 +80,7 @@ returns-4 c =
     let img = past .before .before .before .before .before .before .before .args .img .now in
     record {
       answers =
-          says-first img
+          says-first img (imageRefusals img)
           (first-record img (marked (past .before .before .before .before)) (counted (past .before .before)) (placed past) _ _
           (rw (c .before .line .given .1) at (c .before .before .before .scan-records .ensures)));
     }
@@ -100,7 +100,7 @@ returns-5 c =
     let img = past .before .before .before .before .before .before .before .args .img .now in
     record {
       answers =
-          says-first img
+          says-first img (imageRefusals img)
           (first-output img (marked (past .before .before .before .before)) (counted (past .before .before)) (placed past) _ (scanned records .0)
           (sym (look .first-bad-output .ensures) ∙ ap place (c .before .place .given .1)));
     }
@@ -115,7 +115,7 @@ returns-6 c =
     record {
       answers =
           rw (c .before .line-count .ensures .0, scanned records .1, c .output-count .ensures .0)
-          (says-counts img (accepted img (marked (past .before .before .before .before)) (counted (past .before .before)) (placed past) (scanned records .0) none-bad));
+          (says-counts img (imageRefusals img) (accepted img (marked (past .before .before .before .before)) (counted (past .before .before)) (placed past) (scanned records .0) none-bad));
     }
 
 pub check-spec : {M : Type 1} → statement M

@@ -16,7 +16,7 @@ pins-of-requires-2 : tie.Need-pins-of-requires-2
 pins-of-requires-2 c κs = search needs
 
 returns : tie.Need-returns
-returns c = cc (c .pins-of2 .ensures, c .before .before .pins-of .ensures)
+returns c = rw (c .pins-of2 .ensures, c .before .before .pins-of .ensures)
 
 pub is-bad-count-spec : {M : Type 1} → statement M
 is-bad-count-spec =
