@@ -3,6 +3,7 @@ pub mod Limits
 pub mod Board
 pub mod Row
 pub mod Gate
+pub mod Held
 pub mod Reach
 pub mod Test
 pub mod Book
