@@ -5,3 +5,4 @@ pub mod Check
 pub mod Fine
 pub mod Long
 pub mod Calls
+pub mod Pattern

@@ -3,17 +3,18 @@ use mathlib.Core.Path.{_≡_, refl, sym, ap, _∙_}
 use mathlib.Core.Option.{Option, none, some}
 use mathlib.Core.List.{List, [], _∷_, _++_}
 use mathlib.Core.Bool.{Bool, true, false}
-use Prim.Native.Nat.{ℕ, _<_}
+use Prim.Native.Nat.{ℕ, _<_, suc-le-suc}
 use lib.Dec.{leb, ltb, lit<}
 use lib.ListN.{getD}
+use borrow.Author.Tests.{leb-false, ltb-false}
 use Rattle.image.specs.Image.{lineCount}
-use Rattle.image.specs.Refusals.{given, firstRefusal, imageRefusals}
-use Rattle.image.specs.Calls.{lineRefusals, faultRefusals}
+use Rattle.image.specs.Refusals.{given, firstRefusal, imageRefusals, Accepted}
+use Rattle.image.specs.Calls.{noLine, badStuck, lineRefusals, faultRefusals}
 use Rattle.image.specs.Check.{number, Counted}
 use Rattle.image.specs.declared.Refusal.{Refusal}
 use Rattle.image.specs.declared.Checked.{Checked}
 use Rattle.image.specs.declared.Checked.the-variants.{Good, Refused}
-use Rattle.image.proofs.Laws.Answer.{skip-all, first-of-all, Numbered, none-numbered, given-numbered}
+use Rattle.image.proofs.Laws.Answer.{none-applies, not-given, skip-all, first-of-all, Numbered, none-numbered, given-numbered}
 use Rattle.image.proofs.Laws.Check.{good-says, refused-says, says-first, says-counts, number-over, image-numbered}
 
 -- a refusal more among those that begin with a number over 0
@@ -52,3 +53,23 @@ line-numbered s line = append-numbered (image-numbered s) (given-numbered (leb (
 pub fault-numbered : (s : List ℕ) (line stuck : ℕ) → Numbered (faultRefusals s line stuck)
 unfolding faultRefusals
 fault-numbered s line stuck = append-numbered (line-numbered s line) (given-numbered (ltb 1 stuck) (7 ∷ []) (lit< tt) none-numbered)
+
+-- where a run of refusals gives none, each part of it gives none
+pub none-both : (rs more : List (Option (List ℕ))) → firstRefusal (rs ++ more) ≡ none → (firstRefusal rs ≡ none) × (firstRefusal more ≡ none)
+none-both [] more h = (refl, h)
+none-both (none ∷ rs) more h = none-both rs more h
+none-both (some v ∷ rs) more h = (h, cc)
+
+-- what holds where a call that names a line, or its fault, is not refused
+pub line-accepted : (s : List ℕ) (line : ℕ) → firstRefusal (lineRefusals s line) ≡ none → Accepted s × (line < lineCount s)
+unfolding lineRefusals
+line-accepted s line h =
+    let (ok, inside) = none-both (imageRefusals s) (noLine s line ∷ []) h in
+    (ok, leb-false (lineCount s) line (not-given (leb (lineCount s) line) (6 ∷ []) (none-applies (noLine s line ∷ []) inside 0)))
+
+pub fault-accepted : (s : List ℕ) (line stuck : ℕ) → firstRefusal (faultRefusals s line stuck) ≡ none → Accepted s × (line < lineCount s) × (stuck < 2)
+unfolding faultRefusals
+fault-accepted s line stuck h =
+    let (named, held) = none-both (lineRefusals s line) (badStuck stuck ∷ []) h in
+    let (ok, inside) = line-accepted s line named in
+    (ok, inside, suc-le-suc (ltb-false 1 stuck (not-given (ltb 1 stuck) (7 ∷ []) (none-applies (badStuck stuck ∷ []) held 0))))

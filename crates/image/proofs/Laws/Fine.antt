@@ -183,3 +183,7 @@ module _ (s : List ℕ) (ok : Passed s) where
 
 pub accepted-fine : (s : List ℕ) → Accepted s → Fine (boardOf s)
 accepted-fine s ok = passed-fine s (passed s ok)
+
+-- at most 512 lines
+pub lines-few : (s : List ℕ) → Accepted s → lineCount s ≤ mostLines
+lines-few s ok = within mostLines (lineCount s) (or-false (outside mostLines (lineCount s)) _ (passed s ok .counted) .0) .1

@@ -1,0 +1,25 @@
+-- The value of a line whose record stands at a place of some bytes.
+use mathlib.Core.Path.{_≡_}
+use mathlib.Core.List.{List, map}
+use Prim.Native.Nat.{ℕ, _+_, _^_, _≤_, _<_}
+use lib.ListN.{length, getD}
+use Rattle.board.specs.Row.{Rule}
+use Rattle.board.specs.Gate.{stuck}
+use Rattle.board.specs.declared.Fault.{Fault}
+use Rattle.image.specs.Image.{lineCount, firstRecord, recordAt}
+
+-- the values at the pins of the record at place p, from a row
+abbrev pub pinsAt : List ℕ → ℕ → List ℕ → List ℕ
+pinsAt s p row = map (λ (q : ℕ). getD row q 0) (recordAt s p .pins)
+
+-- the value of line i, whose record stands at place p, from a row of the lines below it
+unfoldable pub lineAt : Rule → List ℕ → ℕ → ℕ → List ℕ → ℕ
+lineAt F s p i row = F i (recordAt s p .kind) (pinsAt s p row)
+
+-- what the filler asks: where the first record stands, rows within the board, and a stuck value of 0 or 1
+pub record Fillable (s : List ℕ) (start : ℕ) (φ : Fault) (before part : List ℕ) : Type 0 where
+  pub place : start ≡ firstRecord s
+  pub low : start < 2 ^ 63
+  pub within : length before + length part ≤ lineCount s
+  pub few : length before + length part < 65536
+  pub held : stuck φ < 2
