@@ -3,7 +3,7 @@ use mathlib.Core.Path.{_≡_, refl, sym, ap, _∙_}
 use mathlib.Core.Logic.{_⊎_, inl, inr, ⊎-elim}
 use mathlib.Core.List.{List, [], _∷_, _++_, map, append-assoc}
 use mathlib.Core.Bool.{Bool, true, false, _||_, false≢true}
-use Prim.Native.Nat.{ℕ, zero, suc, _+_, _<_}
+use Prim.Native.Nat.{ℕ, zero, suc, _+_, _<_, zero-le, suc-le-suc}
 use native.Mathlib.Nat.{le-of-suc-le-suc, not-suc-le-zero, eq-or-lt-of-le, lt-of-lt-of-le, le-step, le-refl, add-zero, add-suc}
 use native.Mathlib.Numerals.{add-one}
 use native.Mathlib.Omega.{arith}
@@ -70,6 +70,16 @@ pub where-passes : (t : ℕ → Bool) (xs : List ℕ) → somewhere t xs ≡ tru
 where-passes t [] e = absurd (false≢true e)
 where-passes t (y ∷ ys) e =
     ⊎-elim (λ q. (y, inl refl, q)) (λ q. let (x, m, r) = where-passes t ys q in (x, inr m, r)) (or-true (t y) (somewhere t ys) e)
+
+-- the same by places
+pub somewhere-at : (t : ℕ → Bool) (xs : List ℕ) (i : ℕ) → i < length xs → t (getD xs i 0) ≡ true → somewhere t xs ≡ true
+somewhere-at t [] i l e = absurd (not-suc-le-zero l)
+somewhere-at t (x ∷ xs) zero l e = rw e
+somewhere-at t (x ∷ xs) (suc i) l e = or-right (t x) (somewhere t xs) (somewhere-at t xs i (le-of-suc-le-suc l) e)
+
+pub nowhere-at : (t : ℕ → Bool) (xs : List ℕ) → ((i : ℕ) → i < length xs → t (getD xs i 0) ≡ false) → somewhere t xs ≡ false
+nowhere-at t [] h = refl
+nowhere-at t (x ∷ xs) h = rw (h 0 (suc-le-suc zero-le), nowhere-at t xs (λ i l. h (suc i) (suc-le-suc l)))
 
 -- induction from all lower numbers
 pub lower : (P : ℕ → Type 0) → ((i : ℕ) → ((j : ℕ) → j < i → P j) → P i) → (i : ℕ) → P i

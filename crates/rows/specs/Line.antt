@@ -1,7 +1,9 @@
 -- The value of a line whose record stands at a place of some bytes.
 use mathlib.Core.Path.{_≡_}
 use mathlib.Core.List.{List, map}
+use mathlib.Core.Bool.{Bool, not}
 use Prim.Native.Nat.{ℕ, _+_, _^_, _≤_, _<_}
+use lib.Dec.{eqb}
 use lib.ListN.{length, getD}
 use Rattle.board.specs.Row.{Rule}
 use Rattle.board.specs.Gate.{stuck}
@@ -23,3 +25,7 @@ pub record Fillable (s : List ℕ) (start : ℕ) (φ : Fault) (before part : Lis
   pub within : length before + length part ≤ lineCount s
   pub few : length before + length part < 65536
   pub held : stuck φ < 2
+
+-- two rows differ at line o
+abbrev pub apart : List ℕ → List ℕ → ℕ → Bool
+apart goodRow faultyRow o = not (eqb (getD goodRow o 0) (getD faultyRow o 0))

@@ -1,12 +1,14 @@
 // The one filler: good, faulty and refreshed rows are filled line by line behind the bytes before.
 use crate::line::line_value;
 use board::Fault;
+use image::limits::MOST_LINES;
 use image::trailer::first_record;
 ghost use mathlib.Core.Path.{_≡_};
 ghost use mathlib.Core.List.{_++_};
 ghost use Prim.Native.Nat.{_≤_, _<_};
 ghost use lib.ListN.{length};
 ghost use Rattle.board.specs.Lists.{grow};
+ghost use Rattle.board.specs.Limits.{mostLines};
 ghost use Rattle.board.specs.Row.{step, row as rowOf};
 ghost use Rattle.board.specs.Gate.{faulty, stuck as stuckAt};
 ghost use Rattle.image.specs.Image.{lineCount, boardOf};
@@ -33,4 +35,11 @@ pub fn fill_row(img: &[u8], x: u64, fault: Fault, row: &mut [u8])
     ensures { λ _. ⌜ now (row .exit) ≡ rowOf (faulty fault x) (boardOf (now (img .entry))) (length (now (row .entry))) ⌝ }
 {
     fill(img, first_record(img), x, fault, &img[..0], row);
+}
+
+// Room for the row of any board.
+pub fn blank_row() -> [u8; MOST_LINES]
+    ensures { λ r. ⌜ mostLines ≡ length r ⌝ }
+{
+    [0u8; MOST_LINES]
 }

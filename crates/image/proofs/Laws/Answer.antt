@@ -26,6 +26,14 @@ skip-all [] more h = refl
 skip-all (none ∷ rs) more h = skip-all rs more h
 skip-all (some v ∷ rs) more h = cc
 
+-- the next one applies, or it is passed over
+module _ (rs : List (Option (List ℕ))) (known : firstRefusal rs ≡ none) (t : Bool) (v : List ℕ) (more : List (Option (List ℕ))) where
+  pub next-given : t ≡ true → firstRefusal (rs ++ (given t v ∷ more)) ≡ some v
+  next-given e = skip-all rs (given t v ∷ more) known ∙ rw e
+
+  pub next-skip : t ≡ false → firstRefusal (rs ++ (given t v ∷ more)) ≡ firstRefusal more
+  next-skip e = skip-all rs (given t v ∷ more) known ∙ rw e
+
 pub first-of-all : (rs more : List (Option (List ℕ))) (v : List ℕ) → firstRefusal rs ≡ some v → firstRefusal (rs ++ more) ≡ some v
 first-of-all [] more v h = cc
 first-of-all (none ∷ rs) more v h = first-of-all rs more v h

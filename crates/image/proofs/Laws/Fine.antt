@@ -31,6 +31,9 @@ line-count s = records-length s (firstRecord s) (lineCount s)
 pub output-count : (s : List ℕ) → length (boardOf s .outs) ≡ outputCount s
 output-count s = build-length _ (outputCount s)
 
+pub output-at : (s : List ℕ) (j : ℕ) → j < outputCount s → getD (boardOf s .outs) j 0 ≡ outputAt s j
+output-at s j l = build-at _ (outputCount s) j l
+
 -- no refusal applies: each test in turn
 pub record Passed (s : List ℕ) : Type 0 where
   pub marked : unmarked s ≡ false
@@ -147,9 +150,6 @@ module _ (s : List ℕ) (ok : Passed s) where
   unfolding firstBadOutput
   output-good j l = (rw (ok .no-bad-output) at (first-is-smallest (badOutput s) (outputCount s))) j l
 
-  output-at : (j : ℕ) → j < outputCount s → getD (boardOf s .outs) j 0 ≡ outputAt s j
-  output-at j l = build-at _ (outputCount s) j l
-
   output-inside : (j : ℕ) → j < outputCount s → outputAt s j < lineCount s
   output-inside j l = leb-false (lineCount s) (outputAt s j) (or-false (leb (lineCount s) (outputAt s j)) _ (output-good j l) .0)
 
@@ -178,12 +178,15 @@ module _ (s : List ℕ) (ok : Passed s) where
         some-output = rw outs some-out;
         outs-few = rw outs few-outs;
         outs-inside = λ o m. let (j, l, e) = among-build _ (outputCount s) o m in rw (e, lines) (output-inside j l);
-        outs-rise = λ j l. let m = rw outs at l in rw (output-at j (le-of-suc-le m), output-at (suc j) m) (outputs-rise j m);
+        outs-rise = λ j l. let m = rw outs at l in rw (output-at s j (le-of-suc-le m), output-at s (suc j) m) (outputs-rise j m);
       }
 
 pub accepted-fine : (s : List ℕ) → Accepted s → Fine (boardOf s)
 accepted-fine s ok = passed-fine s (passed s ok)
 
--- at most 512 lines
+-- at most 512 lines, and at most 64 outputs
 pub lines-few : (s : List ℕ) → Accepted s → lineCount s ≤ mostLines
 lines-few s ok = within mostLines (lineCount s) (or-false (outside mostLines (lineCount s)) _ (passed s ok .counted) .0) .1
+
+pub outputs-few : (s : List ℕ) → Accepted s → outputCount s ≤ mostOutputs
+outputs-few s ok = within mostOutputs (outputCount s) (or-false (outside mostLines (lineCount s)) _ (passed s ok .counted) .1) .1

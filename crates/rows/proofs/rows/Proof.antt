@@ -2,7 +2,7 @@
 use mathlib.Core.Path.{_≡_, refl, sym, ap, _∙_}
 use mathlib.Core.Option.{none}
 use mathlib.Core.Bool.{true, false, not, _||_}
-use mathlib.Core.List.{List}
+use mathlib.Core.List.{[], _∷_}
 use Prim.Native.Nat.{ℕ, _≤_, _<_, _^_}
 use native.Mathlib.Omega.{arith}
 use lib.Dec.{eqb, leb, lit<}
@@ -14,10 +14,12 @@ use Rattle.board.proofs.Lists.{or-false}
 use Rattle.image.specs.Image.{lineCount, outputCount, boardOf}
 use Rattle.image.specs.Refusals.{firstRefusal}
 use Rattle.image.specs.Calls.{faultRefusals, badRow}
+use Rattle.image.proofs.Laws.Answer.{first-of-all, next-given, next-skip}
 use Rattle.image.proofs.Laws.Check.{good-says, refused-says}
 use Rattle.image.proofs.Laws.Calls.{fault-numbered, fault-accepted}
 use Rattle.image.proofs.Laws.Fine.{lines-few}
-use Rattle.rows.proofs.Laws.Calls.{rows-first, rows-pattern, rows-lent, rows-none, rows-refused, rows-filled}
+use Rattle.rows.specs.Rows.{rowsRefusals}
+use Rattle.rows.proofs.Laws.Calls.{rows-refused, rows-filled}
 use Rattle.rows.proofs.rows.Statement.{statement}
 use Rattle.rows.proofs.rows.Tie as tie
 
@@ -73,20 +75,22 @@ is-too-high-requires : tie.Need-is-too-high-requires
 is-too-high-requires c κs = search needs
 
 returns : tie.Need-returns
+unfolding rowsRefusals
 returns c =
     let found = c .before .before .before in
     let a = found .before .before .before .before .before .before .args in
     let high = rw (known found .2) at (sym (c .before .is-too-high .ensures) ∙ c .if1 .taken) in
     rows-refused (a .img .now) (a .pattern) (a .line) (a .stuck) (a .good .now) (a .faulty .now) _
-    (rows-pattern (a .img .now) (a .pattern) (a .line) (a .stuck) (a .good .now) (a .faulty .now) (known found .0) high)
+    (next-given (faultRefusals (a .img .now) (a .line) (a .stuck)) (known found .0) _ (8 ∷ []) _ high)
 
 returns-2 : tie.Need-returns-2
+unfolding rowsRefusals
 returns-2 c =
     let past = c .before in
     let found = past .before .before .before in
     let a = found .before .before .before .before .before .before .args in
     rows-refused (a .img .now) (a .pattern) (a .line) (a .stuck) (a .good .now) (a .faulty .now) _
-    (rows-lent (a .img .now) (a .pattern) (a .line) (a .stuck) (a .good .now) (a .faulty .now) (known found .0) (low past) (rw (known found .1) at (c .if2 .taken)))
+    (next-skip (faultRefusals (a .img .now) (a .line) (a .stuck)) (known found .0) _ (8 ∷ []) _ (low past) ∙ rw (rw (known found .1) at (c .if2 .taken)))
 
 fill-row-requires : tie.Need-fill-row-requires
 fill-row-requires c κs =
@@ -102,11 +106,12 @@ fill-row-requires-2 c κs =
     (all, few, fault-accepted (a .img .now) (a .line) (a .stuck) (known found .0) .2)
 
 returns-3 : tie.Need-returns-3
+unfolding rowsRefusals
 returns-3 c =
     let found = c .before in
     let a = found .before .before .before .before .before .before .args in
     rows-refused (a .img .now) (a .pattern) (a .line) (a .stuck) (a .good .now) (a .faulty .now) _
-    (rows-first (a .img .now) (a .pattern) (a .line) (a .stuck) (a .good .now) (a .faulty .now) _
+    (first-of-all (faultRefusals (a .img .now) (a .line) (a .stuck)) _ _
     (refused-says (a .img .now) (faultRefusals (a .img .now) (a .line) (a .stuck)) _ (rw (found .r .given .1) at (found .before .before .check-fault .ensures))))
 
 same-length : tie.Need-same-length
@@ -116,6 +121,7 @@ same-length-2 : tie.Need-same-length-2
 same-length-2 c = search needs
 
 returns-4 : tie.Need-returns-4
+unfolding rowsRefusals
 returns-4 c =
     let second = c .before .before in
     let first = second .before .before .before .before in
@@ -123,7 +129,7 @@ returns-4 c =
     let found = past .before .before .before .before in
     let a = found .before .before .before .before .before .before .args in
     rows-filled (a .img .now) (a .pattern) (a .line) (a .stuck) (a .good .now) (a .faulty .now)
-    (rows-none (a .img .now) (a .pattern) (a .line) (a .stuck) (a .good .now) (a .faulty .now) (known found .0) (low (past .before)) (rw (known found .1) at (past .if2 .left)))
+    (next-skip (faultRefusals (a .img .now) (a .line) (a .stuck)) (known found .0) _ (8 ∷ []) _ (low (past .before)) ∙ rw (rw (known found .1) at (past .if2 .left)))
     (long past .0) (long past .1) _ _ (first .fill-row .ensures) (second .fill-row2 .ensures)
 
 pub rows-spec : {M : Type 1} → statement M

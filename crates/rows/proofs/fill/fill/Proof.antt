@@ -13,9 +13,6 @@ use Rattle.rows.proofs.Laws.Line.{line-step}
 use borrow.Author.Needs.{needs}
 use Rattle.rows.proofs.fill.fill.Statement.{statement}
 use Rattle.rows.proofs.fill.fill.Tie as tie
-use Rattle.rows.proofs.fill.fill.Reads as reads
-use Rattle.rows.proofs.fill.fill.Lts as lts
-use Rattle.rows.proofs.line.line_value.Reads as line-value-reads
 
 abbrev Inv-loop : tie.InvT-loop
 Inv-loop img start x fault before part₀ first i₀ part i =
@@ -24,48 +21,37 @@ Inv-loop img start x fault before part₀ first i₀ part i =
 abbrev μ-loop : tie.MeasureT-loop
 μ-loop img start x fault before part₀ first i₀ part i = length part₀ - i
 
--- src/fill.rt:20:5
 loop-holds : tie.Need-loop-holds Inv-loop μ-loop
 unfolding grow
 loop-holds c = (search needs, refl, append-nil _)
 
--- src/fill.rt:21:20
 add-line : tie.Need-add-line Inv-loop μ-loop
 add-line c = search needs
 
--- src/fill.rt:22:41
 mul-line-value : tie.Need-mul-line-value Inv-loop μ-loop
 mul-line-value c = search needs
 
--- src/fill.rt:22:33
 add-line-value : tie.Need-add-line-value Inv-loop μ-loop
 add-line-value c = search needs
 
--- src/fill.rt:22:76
 slice-reshare-prefix-line-value : tie.Need-slice-reshare-prefix-line-value Inv-loop μ-loop
 slice-reshare-prefix-line-value c = search needs
 
--- src/fill.rt:22:76
 slice-aggregate-line-value : tie.Need-slice-aggregate-line-value Inv-loop μ-loop
 slice-aggregate-line-value c = simp length-take (omega arith)
 
--- src/fill.rt:22:13
 line-value-requires : tie.Need-line-value-requires Inv-loop μ-loop
 line-value-requires c κs = search needs
 
--- src/fill.rt:23:9
 slice-write-part : tie.Need-slice-write-part Inv-loop μ-loop
 slice-write-part c = search needs
 
--- src/fill.rt:24:9
 add-i : tie.Need-add-i Inv-loop μ-loop
 add-i c = search needs
 
--- src/fill.rt:20:5
 loop-less : tie.Need-loop-less Inv-loop μ-loop
 loop-less c = search needs
 
--- src/fill.rt:20:5
 loop-again : tie.Need-loop-again Inv-loop μ-loop
 loop-again c =
     let at-loop = c .before .before .before in
@@ -82,11 +68,9 @@ loop-again c =
           (is ∙ line-step (faulty (a .fault) (a .x)) (a .img .now) (length (a .before .now) + i) _ line),
     )
 
--- src/fill.rt:14:1
 same-length : tie.Need-same-length Inv-loop μ-loop
 same-length c = search needs
 
--- src/fill.rt:14:1
 returns : tie.Need-returns Inv-loop μ-loop
 returns c =
     let at-loop = c .before in

@@ -3,22 +3,16 @@ use Rattle.rows.proofs.Laws.Line.{no-bit}
 use borrow.Author.Needs.{needs}
 use Rattle.rows.proofs.line.bit_of.Statement.{statement}
 use Rattle.rows.proofs.line.bit_of.Tie as tie
-use Rattle.rows.proofs.line.bit_of.Reads as reads
-use Rattle.rows.proofs.line.bit_of.Lts as lts
 
--- src/line.rt:31:19
 shr-result : tie.Need-shr-result
 shr-result c = search needs
 
--- src/line.rt:31:17
 cast-result : tie.Need-cast-result
 cast-result c = search needs
 
--- src/line.rt:28:1
 returns : tie.Need-returns
 returns c = search needs
 
--- src/line.rt:28:1
 returns-2 : tie.Need-returns-2
 returns-2 c = no-bit (c .before .args .x) (c .before .args .i) (c .before .fits .x .fits) (c .if1 .left)
 

@@ -12,10 +12,6 @@ use Rattle.rows.proofs.Laws.Line.{held-pins-length, ones-next}
 use borrow.Author.Needs.{needs}
 use Rattle.rows.proofs.line.ones_read.Statement.{statement}
 use Rattle.rows.proofs.line.ones_read.Tie as tie
-use Rattle.rows.proofs.line.ones_read.Reads as reads
-use Rattle.rows.proofs.line.ones_read.Lts as lts
-use Rattle.image.proofs.bytes.byte.Reads as byte-reads
-use Rattle.rows.proofs.line.pin_value.Reads as pin-value-reads
 
 abbrev Inv-loop : tie.InvT-loop
 Inv-loop img at line fault before part count sum₀ j₀ sum j =
@@ -24,35 +20,27 @@ Inv-loop img at line fault before part count sum₀ j₀ sum j =
 abbrev μ-loop : tie.MeasureT-loop
 μ-loop img at line fault before part count sum₀ j₀ sum j = count - j
 
--- src/line.rt:76:27
 add-byte : tie.Need-add-byte Inv-loop μ-loop
 add-byte c = search needs
 
--- src/line.rt:76:9
 byte-requires : tie.Need-byte-requires Inv-loop μ-loop
 byte-requires c κs = search needs
 
--- src/line.rt:79:5
 loop-holds : tie.Need-loop-holds Inv-loop μ-loop
 loop-holds c = search needs
 
--- src/line.rt:80:16
 pin-value-requires : tie.Need-pin-value-requires Inv-loop μ-loop
 pin-value-requires c κs = search needs
 
--- src/line.rt:80:9
 add-sum : tie.Need-add-sum Inv-loop μ-loop
 add-sum c = search needs
 
--- src/line.rt:81:9
 add-j : tie.Need-add-j Inv-loop μ-loop
 add-j c = search needs
 
--- src/line.rt:79:5
 loop-less : tie.Need-loop-less Inv-loop μ-loop
 loop-less c = search needs
 
--- src/line.rt:79:5
 loop-again : tie.Need-loop-again Inv-loop μ-loop
 loop-again c =
     let at-loop = c .before .before .loop in
@@ -62,7 +50,6 @@ loop-again c =
     let inside = rw (sym (held-pins-length (a .img .now) (a .at) row (a .fault) (start .pre .1) (a .line) ∙ sym (c .before .before .before .byte .ensures .0))) at (c .before .loop-test .taken) in
     (search needs, search needs, ones-next _ (at-loop .j) _ _ inside (at-loop .inv .2) (c .pin-value .ensures .0))
 
--- src/line.rt:65:1
 returns : tie.Need-returns Inv-loop μ-loop
 returns c =
     let start = c .before .before .before .before .before .before in

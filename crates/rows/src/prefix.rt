@@ -1,0 +1,56 @@
+// The bytes of a row before a line: none may be over 1, and a copy of them is read while the rest is filled.
+use crate::fill::blank_row;
+use crate::fill::fill;
+use board::Fault;
+use image::trailer::first_record;
+ghost use mathlib.Core.Path.{_≡_};
+ghost use Prim.Native.Nat.{_≤_, _<_};
+ghost use lib.Dec.{ltb};
+ghost use lib.ListN.{length, take};
+ghost use Rattle.board.specs.Lists.{somewhere};
+ghost use Rattle.board.specs.Limits.{mostLines};
+ghost use Rattle.image.specs.Image.{lineCount};
+ghost use Rattle.rows.specs.Refresh.{refreshed};
+
+// Whether a byte is over 1.
+pub fn has_over_one(s: &[u8]) -> bool
+    ensures { λ r. ⌜ r ≡ somewhere (ltb 1) (now (s .entry)) ⌝ }
+{
+    let mut i = 0;
+    while i < s.len() {
+        if 1 < s[i] {
+            return true;
+        }
+        i += 1;
+    }
+    false
+}
+
+// Copies bytes to the front of a buffer.
+fn copy_in(from: &[u8], to: &mut [u8])
+    requires { ⌜ length (now from) ≤ length (now to) ⌝ }
+    ensures { λ _. ⌜ take (length (now (from .entry))) (now (to .exit)) ≡ now (from .entry) ⌝ }
+{
+    let mut i = 0;
+    while i < from.len() {
+        to[i] = from[i];
+        i += 1;
+    }
+}
+
+// Fills a row anew from a line on: that part is lent to the filler, and the bytes before it are only read.
+pub fn refresh_from(img: &[u8], x: u64, line: usize, row: &mut [u8])
+    requires { ⌜ (line ≤ length (now row)) × (length (now row) ≡ lineCount (now img)) × (length (now row) ≤ mostLines) ⌝ }
+    ensures { λ _. ⌜ now (row .exit) ≡ refreshed (now (img .entry)) x line (now (row .entry)) ⌝ }
+{
+    let mut before = blank_row();
+    copy_in(&row[..line], &mut before);
+    fill(
+        img,
+        first_record(img),
+        x,
+        Fault::Sound,
+        &before[..line],
+        &mut row[line..],
+    );
+}
