@@ -3,12 +3,12 @@ use mathlib.Core.Path.{_≡_, refl, sym, ap, _∙_}
 use mathlib.Core.Logic.{_⊎_, inl, inr, ⊎-elim}
 use mathlib.Core.List.{List, [], _∷_, _++_, map, append-assoc}
 use mathlib.Core.Bool.{Bool, true, false, _||_, false≢true}
-use Prim.Native.Nat.{ℕ, zero, suc, _+_, _<_, zero-le, suc-le-suc}
-use native.Mathlib.Nat.{le-of-suc-le-suc, not-suc-le-zero, eq-or-lt-of-le, lt-of-lt-of-le, le-step, le-refl, add-zero, add-suc}
+use Prim.Native.Nat.{ℕ, zero, suc, _+_, _≤_, _<_, zero-le, suc-le-suc}
+use native.Mathlib.Nat.{le-of-suc-le-suc, not-suc-le-zero, eq-or-lt-of-le, lt-of-lt-of-le, le-step, le-refl, le-antisymm, le-of-eq, add-zero, add-suc}
 use native.Mathlib.Numerals.{add-one}
 use native.Mathlib.Omega.{arith}
 use lib.ListN.{length, getD, take, set, length-append, List·getD-append}
-use lib.Seq.{getD-at, take-suc-set, take-length}
+use lib.Seq.{getD-at, take-all, take-append-le, take-suc-set, take-length}
 use Rattle.board.specs.Lists.{_among_, somewhere, build, grow}
 
 -- which way a test goes
@@ -89,7 +89,7 @@ lower P step i = step i (go i)
     go zero j h = absurd (not-suc-le-zero h)
     go (suc n) j h = step j (λ k l. go n k (lt-of-lt-of-le l (le-of-suc-le-suc h)))
 
--- a list that is built from the front: its length, what stands at each place, and where what stands in it does
+-- a list that is built from the front: its length, what stands at each place, its beginning, and where what stands in it does
 module _ (f : ℕ → List ℕ → ℕ) where
   pub build-length : (n : ℕ) → length (build f n) ≡ n
   unfolding build
@@ -104,6 +104,15 @@ module _ (f : ℕ → List ℕ → ℕ) where
       (λ (e : i ≡ n). rw e (getD-at (build f n) _ [] 0 n (build-length n)))
       (λ l. List·getD-append (build f n) _ 0 i (rw (build-length n) l) ∙ build-at n i l)
       (eq-or-lt-of-le (le-of-suc-le-suc h))
+
+  pub build-front : (n m : ℕ) → m ≤ n → take m (build f n) ≡ build f m
+  unfolding build
+  build-front zero m l = rw (le-antisymm l zero-le)
+  build-front (suc n) m l =
+      ⊎-elim
+      (λ (e : m ≡ suc n). rw e (take-all (suc n) (build f (suc n)) (le-of-eq (build-length (suc n)))))
+      (λ (k : m < suc n). take-append-le m (build f n) _ (rw (build-length n) (le-of-suc-le-suc k)) ∙ build-front n m (le-of-suc-le-suc k))
+      (eq-or-lt-of-le l)
 
   pub among-build : (n x : ℕ) → x among build f n → (j : ℕ) × (j < n) × (x ≡ f j (build f j))
   unfolding build
@@ -134,3 +143,9 @@ module _ (f : ℕ → List ℕ → ℕ) where
 
   pub grow-done : (before part : List ℕ) (i : ℕ) → i ≡ length part → before ++ take i part ≡ grow f before i → before ++ part ≡ grow f before (length part)
   grow-done before part i h e = rw (h, take-length) at e
+
+-- two rules that agree at each place build the same
+pub build-same : (f g : ℕ → List ℕ → ℕ) (n : ℕ) → ((i : ℕ) (r : List ℕ) → i < n → f i r ≡ g i r) → build f n ≡ build g n
+unfolding build
+build-same f g zero h = refl
+build-same f g (suc n) h = cc (build-same f g n (λ i r l. h i r (le-step l)), h n (build f n) (le-refl (suc n)))

@@ -1,20 +1,23 @@
 -- A fault that an alteration does not touch is shown by the same patterns before and after: at each output either the altered line
 -- does not reach it, and no value there changes, or the fault does not, and nothing differs there on either board.
-use mathlib.Core.Path.{_≡_, refl, _∙_, sym, fun-ext}
+use mathlib.Core.Path.{_≡_, refl, ap, _∙_, sym, fun-ext}
 use mathlib.Core.Logic.{⊎-elim}
+use mathlib.Core.List.{List, map}
 use mathlib.Core.Bool.{true, false}
 use Prim.Native.Nat.{ℕ}
+use native.Mathlib.Nat.{lt-irrefl}
 use lib.Dec.{eqb}
+use lib.ListN.{getD}
 use lib.Seq.{getD-set-other}
 use borrow.Author.Tests.{eq-eqb, ne-eqb, eqb-false}
 use Rattle.board.specs.Board.{Record, Board, recordOf, Low, altered}
-use Rattle.board.specs.Row.{Rule, value}
+use Rattle.board.specs.Row.{Rule, step, row, value}
 use Rattle.board.specs.Gate.{good, under, faulty, site}
 use Rattle.board.specs.Reach.{reach, meet, touched}
 use Rattle.board.specs.Test.{differs, shows}
 use Rattle.board.specs.declared.Fault.{Fault}
 use Rattle.board.specs.declared.Fault.the-variants.{Sound, Line, Pin}
-use Rattle.board.proofs.Lists.{somewhere-same, nowhere, or-false, way, lower}
+use Rattle.board.proofs.Lists.{build-same, somewhere-same, nowhere, or-false, way, lower}
 use Rattle.board.proofs.Reach.{OffBy, unreached, reach-is}
 
 -- a fault changes the rule at its line alone
@@ -22,6 +25,13 @@ under-off : (hold : ℕ → ℕ → ℕ) (φ : Fault) (F : Rule) (i : ℕ) → (
 under-off hold Sound F i ne = refl
 under-off hold (Line l s) F i ne = fun-ext (λ k. fun-ext (λ vs. rw (ne-eqb i l ne)))
 under-off hold (Pin l p s) F i ne = fun-ext (λ k. fun-ext (λ vs. rw (ne-eqb i l ne)))
+
+-- below its line a fault changes nothing
+pub same-below : (b : Board) (φ : Fault) (x : ℕ) → row (good x) b (site φ) ≡ row (faulty φ x) b (site φ)
+same-below b φ x =
+    build-same (step (good x) b) (step (faulty φ x) b) (site φ) (λ i r l.
+    let off = under-off (λ s v. s) φ (good x) i (λ e. lt-irrefl (site φ) (rw e at l)) in
+    ap (λ (F : ℕ → List ℕ → ℕ). F (recordOf b i .kind) (map (λ (p : ℕ). getD r p 0) (recordOf b i .pins))) off)
 
 -- an output that the fault's line does not reach does not show the fault
 pub hidden : (b : Board) → Low b → (φ : Fault) (x o : ℕ) → reach b (site φ) o ≡ false → value (good x) b o ≡ value (faulty φ x) b o

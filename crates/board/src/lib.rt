@@ -1,4 +1,5 @@
 ghost use mathlib.Core.Path.{_≡_};
+ghost use Rattle.board.specs.Gate.{site};
 ghost use Rattle.board.specs.Held.{stuckPin, stuckLine};
 
 // What may be wrong with a board: nothing, one line held at a value for everything that reads it, or one pin of one line's gate
@@ -28,5 +29,16 @@ pub fn stuck_line(f: Fault, line: usize) -> u8
         Fault::Line(l, s) => { if line == l { s } else { 2 } }
         Fault::Pin(_, _, _) => 2,
         Fault::Sound => 2,
+    }
+}
+
+// The line that a fault is on.
+pub fn site_of(f: Fault) -> usize
+    ensures { λ r. ⌜ r ≡ site f ⌝ }
+{
+    match f {
+        Fault::Sound => 0,
+        Fault::Line(l, _) => l,
+        Fault::Pin(l, _, _) => l,
     }
 }

@@ -2,6 +2,7 @@
 use crate::fill::blank_row;
 use crate::fill::fill;
 use board::Fault;
+use board::site_of;
 use image::trailer::first_record;
 ghost use mathlib.Core.Path.{_≡_};
 ghost use Prim.Native.Nat.{_≤_, _<_};
@@ -9,7 +10,10 @@ ghost use lib.Dec.{ltb};
 ghost use lib.ListN.{length, take};
 ghost use Rattle.board.specs.Lists.{somewhere};
 ghost use Rattle.board.specs.Limits.{mostLines};
-ghost use Rattle.image.specs.Image.{lineCount};
+ghost use Rattle.board.specs.Row.{row as rowOf};
+ghost use Rattle.board.specs.Gate.{faulty};
+ghost use Rattle.image.specs.Image.{lineCount, boardOf};
+ghost use Rattle.rows.specs.Line.{Faultable};
 ghost use Rattle.rows.specs.Refresh.{refreshed};
 
 // Whether a byte is over 1.
@@ -52,5 +56,22 @@ pub fn refresh_from(img: &[u8], x: u64, line: usize, row: &mut [u8])
         Fault::Sound,
         &before[..line],
         &mut row[line..],
+    );
+}
+
+// Fills a faulty row: below the fault's line it is the good row, and from there on the board is run again.
+pub fn fill_faulty(img: &[u8], x: u64, fault: Fault, good: &[u8], room: &mut [u8])
+    requires { ⌜ Faultable (now img) x fault (now good) (now room) ⌝ }
+    ensures { λ _. ⌜ now (room .exit) ≡ rowOf (faulty fault x) (boardOf (now (img .entry))) (lineCount (now (img .entry))) ⌝ }
+{
+    let site = site_of(fault);
+    copy_in(&good[..site], room);
+    fill(
+        img,
+        first_record(img),
+        x,
+        fault,
+        &good[..site],
+        &mut room[site..],
     );
 }

@@ -68,7 +68,7 @@ is-shown-requires c κs =
     let found = c .before .before .before in
     let a = found .before .before .before .before .args in
     let (ok, inside, held) = fault-accepted (a .img .now) (a .line) (a .stuck) (known found .0) in
-    (ok, known found .1, known found .3, held)
+    (ok, known found .1, known found .3, inside, held)
 
 returns-2 : tie.Need-returns-2
 returns-2 c =

@@ -1,15 +1,13 @@
 -- `rows::prefix::refresh_from` meets its contract: the filler goes on from a copy of the bytes before, which is those bytes.
-use mathlib.Core.Path.{ap, _∙_}
-use Prim.Native.Nat.{ℕ, _-_}
+use mathlib.Core.Path.{sym, _∙_}
 use native.Mathlib.Omega.{arith}
 use lib.Dec.{lit<}
-use lib.ListN.{take, length-take, length-drop}
-use Rattle.board.specs.Lists.{grow}
+use lib.ListN.{length-take, length-drop}
 use Rattle.board.specs.Row.{step}
 use Rattle.board.specs.Gate.{good}
 use Rattle.image.specs.Image.{boardOf}
 use Rattle.rows.specs.Refresh.{refreshed}
-use Rattle.rows.proofs.Laws.Prefix.{refilled}
+use Rattle.rows.proofs.Laws.Prefix.{refilled, copy-is}
 use borrow.Author.Needs.{needs}
 use Rattle.rows.proofs.prefix.refresh_from.Statement.{statement}
 use Rattle.rows.proofs.prefix.refresh_from.Tie as tie
@@ -70,9 +68,10 @@ returns c =
     let copied = filled .before .before .before .before .before in
     let start = copied .before .before .before .before .before .before in
     let a = start .args in
-    refilled (step (good (a .x)) (boardOf (a .img .now))) (a .row .now) (copied .copy-in .last .1 .0) (filled .fill .last .1 .1 .1 .1 .1 .0) (a .line)
-    (start .pre .0) (copied .copy-in .ensures) (filled .fill .ensures)
-    ∙ ap (λ (n : ℕ). grow (step (good (a .x)) (boardOf (a .img .now))) (take (a .line) (a .row .now)) (n - a .line)) (start .pre .1)
+    let f = step (good (a .x)) (boardOf (a .img .now)) in
+    let same = copy-is (a .row .now) (copied .copy-in .last .1 .0) (a .line) (start .pre .0) (copied .copy-in .ensures) in
+    refilled f (a .row .now) _ (filled .fill .last .1 .1 .1 .1 .1 .0) (a .line) (start .pre .0) (sym same) (filled .fill .ensures)
+    ∙ rw (same, start .pre .1)
 
 pub refresh-from-spec : {M : Type 1} → statement M
 refresh-from-spec =
