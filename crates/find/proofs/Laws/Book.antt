@@ -1,0 +1,29 @@
+-- A book that is filled entry by entry: one entry more, counted as it is written, and the whole.
+use mathlib.Core.Path.{_≡_, refl, sym, ap, _∙_}
+use mathlib.Core.List.{List, [], _∷_, _++_}
+use mathlib.Core.Bool.{not}
+use Prim.Native.Nat.{ℕ, _+_, _<_}
+use native.Mathlib.Nat.{zero-add}
+use native.Mathlib.Numerals.{add-one}
+use native.Mathlib.Omega.{arith}
+use lib.Dec.{eqb}
+use lib.ListN.{length, take, set}
+use lib.Seq.{take-suc-set}
+use Rattle.board.specs.Lists.{bit, build, grow}
+use Rattle.board.specs.Limits.{noneMark}
+use Rattle.board.specs.Book.{found}
+use Rattle.board.proofs.Lists.{grow-build}
+
+found-end : (es : List ℕ) (e : ℕ) → found (es ++ (e ∷ [])) ≡ found es + bit (not (eqb e noneMark))
+found-end [] e = omega arith
+found-end (x ∷ es) e = omega (arith, found-end es e)
+
+-- one entry more
+pub found-next : (book : List ℕ) (k e count more : ℕ) → k < length book → count ≡ found (take k book) → more ≡ bit (not (eqb e noneMark))
+    → count + more ≡ found (take (k + 1) (set book k e))
+found-next book k e count more l h q = rw (add-one, take-suc-set book k e l, found-end, h, q)
+
+-- what grows from nothing is built
+pub grown-whole : (f : ℕ → List ℕ → ℕ) (n : ℕ) → grow f [] n ≡ build f n
+unfolding build
+grown-whole f n = grow-build f 0 n ∙ ap (build f) (zero-add n)

@@ -1,0 +1,72 @@
+// The smallest pattern that shows a fault.
+use board::Fault;
+use rows::fill::blank_row;
+use rows::outputs::shows_in;
+ghost use mathlib.Core.Path.{_≡_};
+ghost use Prim.Native.Nat.{_≤_, _^_};
+ghost use Rattle.board.specs.Limits.{mostInputs};
+ghost use Rattle.board.specs.Board.{inputs as inputsOf};
+ghost use Rattle.board.specs.Test.{find};
+ghost use Rattle.image.specs.Image.{boardOf};
+ghost use Rattle.rows.specs.Line.{Tryable};
+ghost use Rattle.find.specs.Answer.{answered, Askable};
+
+// A number in a book, and the one that stands for none.
+pub type Entry = u32;
+
+pub const NONE: Entry = 4294967295;
+
+// What a search finds.
+pub enum Answer {
+    At(Entry),
+    Nothing,
+}
+
+// How many patterns a board with so many inputs has.
+fn patterns(inputs: usize) -> Entry
+    requires { ⌜ inputs ≤ mostInputs ⌝ }
+    ensures { λ r. ⌜ r ≡ 2 ^ inputs ⌝ }
+{
+    1 << inputs
+}
+
+// The first pattern from 0 up that shows the fault, with room for the two rows lent.
+fn first_shown(
+    img: &[u8],
+    limit: Entry,
+    outputs: usize,
+    fault: Fault,
+    good: &mut [u8],
+    faulty: &mut [u8],
+) -> Answer
+    requires { ⌜ Tryable (now img) outputs fault (now good) (now faulty) ⌝ }
+    requires { ⌜ limit ≡ 2 ^ inputsOf (boardOf (now img)) ⌝ }
+    ensures { λ r. ⌜ answered r ≡ find (boardOf (now (img .entry))) fault ⌝ }
+{
+    let mut x = 0;
+    while x < limit {
+        if shows_in(img, outputs, x as u64, fault, good, faulty) {
+            return Answer::At(x);
+        }
+        x += 1;
+    }
+    Answer::Nothing
+}
+
+// The smallest pattern that shows the fault, or nothing.
+pub fn smallest(img: &[u8], lines: usize, inputs: usize, outputs: usize, fault: Fault) -> Answer
+    requires { ⌜ Askable (now img) lines inputs outputs fault ⌝ }
+    ensures { λ r. ⌜ answered r ≡ find (boardOf (now (img .entry))) fault ⌝ }
+{
+    let mut good = blank_row();
+    let mut faulty = blank_row();
+    let limit = patterns(inputs);
+    first_shown(
+        img,
+        limit,
+        outputs,
+        fault,
+        &mut good[..lines],
+        &mut faulty[..lines],
+    )
+}
