@@ -1,6 +1,6 @@
 -- What Find and Book owe, refused or not, from which refusal is the first; and that each promise pins its outcome.
 use mathlib.Core.Path.{_≡_, refl, sym, ap, _∙_}
-use mathlib.Core.Option.{none, some}
+use mathlib.Core.Option.{Option, none, some}
 use mathlib.Core.List.{List, [], _∷_}
 use Prim.Native.Nat.{ℕ}
 use Rattle.board.specs.Test.{find}
@@ -63,3 +63,29 @@ module _ (s : List ℕ) (old : List ℕ) where
   -- any two outcomes that the promise of Book allows are equal: the answer and the book
   pub book-pinned : (q r : Counted) (a b : List ℕ) → BookOwes s old q a → BookOwes s old r b → (q ≡ r) × (a ≡ b)
   book-pinned q r a b p o = (counted-one q r (p .answers ∙ sym (o .answers)), p .book ∙ sym (o .book))
+
+-- what an answer tells of a fault of an accepted image's board
+module _ (s : List ℕ) (line stuck : ℕ) (known : firstRefusal (faultRefusals s line stuck) ≡ none) where
+  found-is : (r : Found) → FindOwes s line stuck r → foundSays r ≡ patternOf (find (boardOf s) (Line line stuck))
+  found-is r owes = rw known at (owes .answers)
+
+  pub pattern-is : (p : ℕ) → FindOwes s line stuck (Pattern p) → find (boardOf s) (Line line stuck) ≡ some p
+  pattern-is p owes = go (find (boardOf s) (Line line stuck)) (found-is (Pattern p) owes)
+    where
+      go : (o : Option ℕ) → foundSays (Pattern p) ≡ patternOf o → o ≡ some p
+      go none e = cc
+      go (some q) e = cc
+
+  pub nothing-is : FindOwes s line stuck Nothing → find (boardOf s) (Line line stuck) ≡ none
+  nothing-is owes = go (find (boardOf s) (Line line stuck)) (found-is Nothing owes)
+    where
+      go : (o : Option ℕ) → foundSays Nothing ≡ patternOf o → o ≡ none
+      go none e = refl
+      go (some q) e = cc
+
+  pub not-refused-is : {A : Type 0} (r : Refusal) → FindOwes s line stuck (Refused r) → A
+  not-refused-is r owes = go (find (boardOf s) (Line line stuck)) (found-is (Refused r) owes)
+    where
+      go : {A : Type 0} (o : Option ℕ) → number r ≡ patternOf o → A
+      go none e = not-refused r [] e
+      go (some q) e = not-refused r (q ∷ []) e

@@ -61,17 +61,17 @@ returns c =
 
 returns-2 : tie.Need-returns-2
 returns-2 c =
-    let search = c .before .before .before in
-    let found = search .before .before in
+    let tried = c .before .before .before in
+    let found = tried .before .before in
     let a = found .before .before .before .before .args in
-    find-pattern (a .img .now) (a .line) (a .stuck) _ (known found .0) (sym (ap answered (c .before .p .given .1)) ∙ search .smallest .ensures)
+    find-pattern (a .img .now) (a .line) (a .stuck) _ (known found .0) (sym (ap answered (c .before .p .given .1)) ∙ tried .smallest .ensures)
 
 returns-3 : tie.Need-returns-3
 returns-3 c =
-    let search = c .before .before in
-    let found = search .before .before in
+    let tried = c .before .before in
+    let found = tried .before .before in
     let a = found .before .before .before .before .args in
-    find-nothing (a .img .now) (a .line) (a .stuck) (known found .0) (sym (ap answered (c .enum-told .given .1)) ∙ search .smallest .ensures)
+    find-nothing (a .img .now) (a .line) (a .stuck) (known found .0) (sym (ap answered (c .enum-told .given .1)) ∙ tried .smallest .ensures)
 
 pub find-spec : {M : Type 1} → statement M
 find-spec =

@@ -4,9 +4,10 @@ use mathlib.Core.Option.{Option, none, some}
 use mathlib.Core.List.{List, [], _∷_, _++_}
 use mathlib.Core.Bool.{Bool, true, false}
 use Prim.Native.Nat.{ℕ, _<_, suc-le-suc}
+use native.Mathlib.Nat.{le-of-suc-le-suc}
 use lib.Dec.{leb, ltb, lit<}
 use lib.ListN.{getD}
-use borrow.Author.Tests.{leb-false, ltb-false}
+use borrow.Author.Tests.{leb-false, ltb-false, lt-leb, le-ltb}
 use Rattle.image.specs.Image.{lineCount}
 use Rattle.image.specs.Refusals.{given, firstRefusal, imageRefusals, Accepted}
 use Rattle.image.specs.Calls.{noLine, badStuck, lineRefusals, faultRefusals}
@@ -14,7 +15,7 @@ use Rattle.image.specs.Check.{number, Counted}
 use Rattle.image.specs.declared.Refusal.{Refusal}
 use Rattle.image.specs.declared.Checked.{Checked}
 use Rattle.image.specs.declared.Checked.the-variants.{Good, Refused}
-use Rattle.image.proofs.Laws.Answer.{none-applies, not-given, skip-all, first-of-all, Numbered, none-numbered, given-numbered}
+use Rattle.image.proofs.Laws.Answer.{none-applies, not-given, skip-all, next-skip, first-of-all, Numbered, none-numbered, given-numbered}
 use Rattle.image.proofs.Laws.Check.{good-says, refused-says, says-first, says-counts, number-over, image-numbered}
 
 -- a refusal more among those that begin with a number over 0
@@ -73,3 +74,11 @@ fault-accepted s line stuck h =
     let (named, held) = none-both (lineRefusals s line) (badStuck stuck ∷ []) h in
     let (ok, inside) = line-accepted s line named in
     (ok, inside, suc-le-suc (ltb-false 1 stuck (not-given (ltb 1 stuck) (7 ∷ []) (none-applies (badStuck stuck ∷ []) held 0))))
+
+-- and the other way round
+pub fault-none : (s : List ℕ) (line stuck : ℕ) → Accepted s → line < lineCount s → stuck < 2 → firstRefusal (faultRefusals s line stuck) ≡ none
+unfolding faultRefusals lineRefusals
+fault-none s line stuck ok inside held =
+    skip-all (imageRefusals s ++ (noLine s line ∷ [])) (badStuck stuck ∷ [])
+    (next-skip (imageRefusals s) ok (leb (lineCount s) line) (6 ∷ []) [] (lt-leb (lineCount s) line inside))
+    ∙ rw (le-ltb 1 stuck (le-of-suc-le-suc held))

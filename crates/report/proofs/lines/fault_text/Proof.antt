@@ -1,0 +1,46 @@
+-- `report::lines::fault_text` meets its contract: each piece stands behind those before it.
+use borrow.Author.Needs.{needs}
+use Rattle.report.proofs.lines.fault_text.Statement.{statement}
+use Rattle.report.proofs.lines.fault_text.Tie as tie
+
+put-number-requires : tie.Need-put-number-requires
+put-number-requires c κs = search needs
+
+slice-aggregate-put : tie.Need-slice-aggregate-put
+slice-aggregate-put c = search needs
+
+put-requires : tie.Need-put-requires
+put-requires c κs = search needs
+
+put-number-requires-2 : tie.Need-put-number-requires-2
+put-number-requires-2 c κs = search needs
+
+slice-aggregate-put-2 : tie.Need-slice-aggregate-put-2
+slice-aggregate-put-2 c = search needs
+
+put-requires-2 : tie.Need-put-requires-2
+put-requires-2 c κs = search needs
+
+same-length : tie.Need-same-length
+same-length c = search needs
+
+returns : tie.Need-returns
+returns c =
+    let step4 = c .before .before in
+    let step3 = step4 .before .before .before .before .before in
+    let step2 = step3 .before .before .before .before in
+    let step1 = step2 .before .before .before .before .before in
+    (search needs, rw (step4 .put2 .ensures .1, step3 .put-number2 .ensures .2, step2 .put .ensures .1, step1 .put-number .ensures .2))
+
+pub fault-text-spec : {M : Type 1} → statement M
+fault-text-spec =
+    tie.close
+    (tie.spec
+    put-number-requires
+    slice-aggregate-put
+    put-requires
+    put-number-requires-2
+    slice-aggregate-put-2
+    put-requires-2
+    same-length
+    returns)

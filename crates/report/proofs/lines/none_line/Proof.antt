@@ -1,0 +1,41 @@
+-- `report::lines::none_line` meets its contract: each piece stands behind those before it.
+use borrow.Author.Needs.{needs}
+use Rattle.report.proofs.lines.none_line.Statement.{statement}
+use Rattle.report.proofs.lines.none_line.Tie as tie
+
+fault-text-requires : tie.Need-fault-text-requires
+fault-text-requires c κs = search needs
+
+slice-aggregate-put : tie.Need-slice-aggregate-put
+slice-aggregate-put c = search needs
+
+put-requires : tie.Need-put-requires
+put-requires c κs = search needs
+
+slice-aggregate-put-2 : tie.Need-slice-aggregate-put-2
+slice-aggregate-put-2 c = search needs
+
+put-requires-2 : tie.Need-put-requires-2
+put-requires-2 c κs = search needs
+
+same-length : tie.Need-same-length
+same-length c = search needs
+
+returns : tie.Need-returns
+returns c =
+    let step3 = c .before .before in
+    let step2 = step3 .before .before .before .before .before in
+    let step1 = step2 .before .before .before .before .before in
+    record { room = search needs; is = rw (step3 .put2 .ensures .1, step2 .put .ensures .1, step1 .fault-text .ensures .1) }
+
+pub none-line-spec : {M : Type 1} → statement M
+none-line-spec =
+    tie.close
+    (tie.spec
+    fault-text-requires
+    slice-aggregate-put
+    put-requires
+    slice-aggregate-put-2
+    put-requires-2
+    same-length
+    returns)

@@ -1,0 +1,30 @@
+-- Text as bytes.
+use mathlib.Core.Path.{_≡_}
+use mathlib.Core.Option.{Option·getD}
+use mathlib.Core.List.{List, [], _∷_, _++_}
+use Prim.Native.Nat.{ℕ, suc, _+_, _^_, _≤_}
+use Prim.Native.Char.{code}
+use Prim.Native.String as Quoted
+use Prim.Native.String.{String}
+use lib.Dec.{ltb}
+use lib.ListN.{length, take}
+use Rattle.io.specs.Digits.{digits}
+use Rattle.board.specs.Test.{first}
+
+-- the bytes of a quoted text
+abbrev pub text : String → List ℕ
+text Quoted.[] = []
+text (Quoted._∷_ c cs) = code c ∷ text cs
+
+-- how many digits a number of 64 bits has
+unfoldable pub places : ℕ → ℕ
+places n = suc (Option·getD (first (λ k. ltb n (10 ^ suc k)) 0 20) 0)
+
+-- a number in decimal, without leading zeros
+unfoldable pub decimal : ℕ → List ℕ
+decimal n = digits 10 (places n) n
+
+-- the first r bytes of a buffer are the text
+pub record Written (r : ℕ) (out : List ℕ) (t : List ℕ) : Type 0 where
+  pub room : r ≤ length out
+  pub is : take r out ≡ t
