@@ -1,0 +1,239 @@
+//! The console, command by command.
+
+use super::*;
+use crate::console::{talk, Console};
+
+/// Lines that are no command.
+#[rustfmt::skip]
+const MALFORMED: &[&str] = &[
+    "", " ", "nothing", "Check", "check ", " check", "check 1", "check\r", "check\t", "image x", "help me", "load",
+    "load ", "load  -", "load 0", "load 0g", "load 0x00", "load --", "load - -", "load 00 00", "load\t-", "rows",
+    "rows 0", "rows 0 0", "rows 0  0/0", "rows 0 0/0 0", "rows 0 /0", "rows 0 0/", "rows 0 0/0/0", "rows -1 0/0",
+    "rows +1 0/0", "rows 0x1 0/0", "rows 1. 0/0", "rows 0 0.0/0", "rows 0 +0/0", "rows 0 0/-1",
+    "rows 18446744073709551616 0/0", "find 0/18446744073709551616", "find 99999999999999999999/0", "find 0/0\r",
+    "judge 0", "judge 0 0", "find", "find 0", "book 6", "alter 1", "alter 1 -", "alter 1 020100000000000000",
+    "alter 1 0201000000000000000000", "alter 1 0201000000000000000g", "refresh 0", "refresh 0 x", "five 0 0",
+    "five 0 0 0", "show", "show good", "show bad 0", "show good -1", "show good 0 1", "entries 0", "open", "save",
+    "open ", "save ", "open /nonexistent/board", "save /nonexistent/board", "open /", "save /", "open a b", "lend",
+    "lend rows", "lend rows 1", "lend rows 1 8193", "lend rows 8193 1", "lend rows 1 1 1", "lend book",
+    "lend book 16385", "lend book x", "lend good 1", "put", "put good", "put good 0", "put good 0G", "put bad 00",
+    "put entry 0", "put entry 6 1", "put entry 0 4294967296", "put entry 0 -1", "put entry 99999999999 1",
+];
+
+// Gives the HEX word of some bytes, lower case.
+fn hex(bytes: &[u8]) -> String {
+    bytes.iter().map(|byte| format!("{byte:02x}")).collect()
+}
+
+// Gives a console with an image loaded.
+fn loaded(image: &[u8]) -> Console {
+    let mut console = Console::default();
+    console.answer(format!("load {}", hex(image)).as_bytes());
+    console
+}
+
+// Gives the answers to an input, as the program writes them.
+fn talked(mut input: &[u8]) -> String {
+    let mut output = Vec::new();
+    talk(&mut input, &mut output).unwrap();
+    String::from_utf8(output).unwrap()
+}
+
+// Checks a list of commands and their answers; an answer `?` stands for any that begins with `? `.
+fn check_all(console: &mut Console, script: &[(&str, &str)]) {
+    for (command, wanted) in script {
+        let answer = console.answer(command.as_bytes());
+        if *wanted == "?" {
+            assert!(answer.starts_with("? ") && answer.len() > 2, "{command}: {answer}");
+        } else {
+            assert_eq!(answer, *wanted, "{command}");
+        }
+    }
+}
+
+// Before the first load everything is empty.
+#[test]
+fn before_load() {
+    let script = [
+        ("image", "image -"),
+        ("check", "refused 1"),
+        ("entries", "entries"),
+        ("show good 0", "row -"),
+        ("show faulty 5", "row -"),
+        ("rows 0 0/0", "refused 1"),
+        ("judge 0 0/0", "refused 1"),
+        ("find 0/0", "refused 1"),
+        ("book", "refused 1"),
+        ("alter 0 00000000000000000000", "refused 1"),
+        ("refresh 0 0", "refused 1"),
+        ("five 0 0 0/0", "refused 1"),
+        ("put entry 0 1", "?"),
+    ];
+    check_all(&mut Console::default(), &script);
+}
+
+// Board T through every call.
+#[test]
+fn board_t_through_every_call() {
+    let load = format!("load {}", hex(&board_t()).to_uppercase());
+    let image = format!("image {}", hex(&board_t()));
+    let script = [
+        (load.as_str(), "board 3 lines 1 inputs 1 outputs"),
+        (&image[..5], &image[..]),
+        ("show good 0", "row 090909"),
+        ("show faulty 0", "row 090909"),
+        ("entries", "entries 99 99 99 99 99 99"),
+        ("check", "board 3 lines 1 inputs 1 outputs"),
+        ("rows 1 1/1", "filled"),
+        ("show good 0", "row 010001"),
+        ("show faulty 1", "row 0101"),
+        ("show faulty 3", "row -"),
+        ("show faulty 18446744073709551615", "row -"),
+        ("judge 0 1/0", "yes"),
+        ("judge 1 1/0", "no"),
+        ("find 1/0", "0"),
+        ("find 1/1", "none"),
+        ("book", "found 2 of 6"),
+        ("entries", "entries 4294967295 4294967295 0 4294967295 0 4294967295"),
+        ("alter 2 03020000010000000000", "found 2 of 6"),
+        ("entries", "entries 4294967295 4294967295 4294967295 1 4294967295 0"),
+        ("five 0 0 2/1", "drives 0"),
+        ("show good 0", "row 020202"),
+        ("refresh 0 0", "filled"),
+        ("show good 0", "row 000100"),
+        ("put good 010100", "lent"),
+        ("refresh 2 0", "filled"),
+        ("show good 0", "row 010101"),
+    ];
+    check_all(&mut Console::default(), &script);
+}
+
+// Refusals reach the console; numbers as large as 64 bits reach the call.
+#[test]
+fn refusals() {
+    let script = [
+        ("rows 0 1000000000000000000/0", "refused 6"),
+        ("rows 0 18446744073709551615/0", "refused 6"),
+        ("rows 0 3/9", "refused 6"),
+        ("rows 0 2/2", "refused 7"),
+        ("rows 0 2/256", "refused 7"),
+        ("find 2/300", "refused 7"),
+        ("find 2/18446744073709551615", "refused 7"),
+        ("judge 2 2/1", "refused 8"),
+        ("judge 18446744073709551615 2/1", "refused 8"),
+        ("five 1 1 3/0", "refused 6"),
+        ("five 0 1 0/0", "refused 8"),
+        ("refresh 3 0", "refused 6"),
+        ("refresh 1 0", "refused 11"),
+        ("alter 0 02010000000000000000", "refused 10"),
+        ("alter 3 02010000000000000000", "refused 6"),
+        ("lend rows 3 4", "lent"),
+        ("rows 0 0/0", "refused 9"),
+        ("five 0 0 0/0", "drives 0"),
+        ("show good 0", "row 020202"),
+        ("show faulty 0", "row 09090909"),
+        ("lend rows 0 0", "lent"),
+        ("refresh 1 0", "refused 9"),
+        ("lend book 7", "lent"),
+        ("book", "refused 9"),
+        ("entries", "entries 99 99 99 99 99 99 99"),
+        ("alter 2 03020000010000000000", "refused 9"),
+    ];
+    check_all(&mut loaded(&board_t()), &script);
+}
+
+// A refused image is kept, with rows and a book of length 0.
+#[test]
+fn refused_image() {
+    let mut bad = board_t();
+    bad[24] = 2;
+    let load = format!("load {}", hex(&bad));
+    let image = format!("image {}", hex(&bad));
+    let script = [
+        (load.as_str(), "refused 4 at 2.3"),
+        ("image", &image[..]),
+        ("show good 0", "row -"),
+        ("entries", "entries"),
+        ("check", "refused 4 at 2.3"),
+        ("book", "refused 4 at 2.3"),
+        ("lend book 2", "lent"),
+        ("alter 2 03020000010000000000", "refused 4 at 2.3"),
+        ("load -", "refused 1"),
+        ("image", "image -"),
+    ];
+    check_all(&mut loaded(&board_t()), &script);
+}
+
+// What is no command changes nothing.
+#[test]
+fn malformed() {
+    let mut console = loaded(&board_t());
+    let image = format!("image {}", hex(&board_t()));
+    for line in MALFORMED {
+        check_all(&mut console, &[(line, "?"), ("image", &image), ("show good 0", "row 090909")]);
+        check_all(&mut console, &[("show faulty 0", "row 090909"), ("entries", "entries 99 99 99 99 99 99")]);
+    }
+    assert!(console.answer(b"find \xFF/0").starts_with("? "));
+}
+
+// The console's own limits, at the boundary.
+#[test]
+fn limits() {
+    let mut console = Console::default();
+    let bytes = |count: usize| "00".repeat(count);
+    let put = format!("put good {}", bytes(8_192));
+    let put_more = format!("put faulty {}", bytes(8_193));
+    let load = format!("load {}", bytes(65_536));
+    let load_more = format!("load {}", bytes(65_537));
+    let script = [
+        ("lend rows 8192 8192", "lent"),
+        ("lend book 16384", "lent"),
+        ("put entry 16383 4294967295", "lent"),
+        ("put entry 16384 0", "?"),
+        ("put entry 0000 007", "lent"),
+        (put.as_str(), "lent"),
+        (put_more.as_str(), "?"),
+        ("show faulty 8191", "row 09"),
+        ("show good 8191", "row 00"),
+        (load.as_str(), "refused 1"),
+        (load_more.as_str(), "?"),
+        ("show good 0", "row -"),
+        ("put faulty fF", "lent"),
+        ("show faulty 0", "row ff"),
+        ("put faulty -", "lent"),
+        ("show faulty 0", "row -"),
+    ];
+    check_all(&mut console, &script);
+    assert_eq!(console.answer(b"image").len(), "image ".len() + 2 * 65_536);
+}
+
+// Lines: the last may lack its line feed, an empty one answers, a long one is skipped whole.
+#[test]
+fn lines() {
+    assert_eq!(talked(b""), "");
+    assert_eq!(talked(b"check"), "refused 1\n");
+    assert_eq!(talked(b"check\n"), "refused 1\n");
+    assert_eq!(talked(b"\ncheck\n\n"), "? empty line\nrefused 1\n? empty line\n");
+    let long = |count: usize| [vec![b'0'; count], b"\ncheck\n".to_vec()].concat();
+    assert_eq!(talked(&long(199_999)), "? no such command\nrefused 1\n");
+    assert_eq!(talked(&long(200_000)), "? line too long\nrefused 1\n");
+    assert_eq!(talked(&long(1_000_000)), "? line too long\nrefused 1\n");
+    assert_eq!(talked(&vec![b'0'; 200_000]), "? line too long\n");
+}
+
+// Save and open carry the image through a file; a file too large or missing changes nothing.
+#[test]
+fn files() {
+    let path = std::env::temp_dir().join(format!("oracle-test-{}", std::process::id()));
+    let (save, open) = (format!("save {}", path.display()), format!("open {}", path.display()));
+    let mut console = loaded(&board_h());
+    check_all(&mut console, &[(save.as_str(), "saved"), ("load -", "refused 1")]);
+    check_all(&mut console, &[(open.as_str(), "board 4 lines 2 inputs 2 outputs"), ("show good 0", "row 09090909")]);
+    assert_eq!(std::fs::read(&path).unwrap(), board_h());
+    std::fs::write(&path, vec![0; 65_537]).unwrap();
+    check_all(&mut console, &[(open.as_str(), "? cannot read"), ("check", "board 4 lines 2 inputs 2 outputs")]);
+    std::fs::write(&path, vec![0; 65_536]).unwrap();
+    check_all(&mut console, &[(open.as_str(), "refused 1"), ("show good 0", "row -")]);
+    std::fs::remove_file(&path).unwrap();
+    check_all(&mut console, &[(open.as_str(), "? cannot read")]);
+}

@@ -1,0 +1,150 @@
+//! The numbers of the bench sheet, starred and unstarred.
+
+use super::*;
+use crate::board::{gate, gate_five, D, D_BAR, X};
+use crate::calls::{self, Counts, NONE};
+use crate::image::Refusal;
+use crate::text::book_text;
+
+// Gives the patterns that show a fault, by asking Judge about every pattern.
+fn showing(image: &[u8], patterns: u64, line: u64, stuck: u8) -> Vec<u64> {
+    (0..patterns).filter(|&pattern| calls::judge(image, pattern, line, stuck).unwrap()).collect()
+}
+
+// Gives the book of an image and its count.
+fn book(image: &[u8]) -> (Vec<u32>, usize) {
+    let mut book = vec![99; 2 * calls::check(image).unwrap().lines];
+    let found = calls::book(image, &mut book).unwrap();
+    (book, found)
+}
+
+// S, line 4 at 0: pattern 0, and no other pattern shows it.
+#[test]
+fn s_line_4_at_0() {
+    assert_eq!(calls::find(&board_s(), 4, 0), Ok(Some(0)));
+    assert_eq!(showing(&board_s(), 16, 4, 0), [0]);
+}
+
+// S, line 4 at 1: pattern 6; the patterns that show it are 6, 7, 14.
+#[test]
+fn s_line_4_at_1() {
+    assert_eq!(calls::find(&board_s(), 4, 1), Ok(Some(6)));
+    assert_eq!(showing(&board_s(), 16, 4, 1), [6, 7, 14]);
+}
+
+// Board T's book, and its counts.
+#[test]
+fn t_book() {
+    assert_eq!(book(&board_t()), (vec![NONE, NONE, 0, NONE, 0, NONE], 2));
+    assert_eq!(calls::check(&board_t()), Ok(Counts { lines: 3, inputs: 1, outputs: 1 }));
+}
+
+// Board T's book as text, whole.
+#[test]
+fn t_text() {
+    let text = "board 3 lines 1 inputs 1 outputs\n0/0 none\n0/1 none\n1/0 0\n1/1 none\n2/0 0\n2/1 none\nfound 2 of 6\n";
+    assert_eq!(book_text(&board_t()), text);
+}
+
+// T with line 2 altered to and(0,1).
+#[test]
+fn t_altered() {
+    let mut image = board_t();
+    let (mut entries, _) = book(&image);
+    assert_eq!(calls::alter(&mut image, 2, &record(AND, &[0, 1]), &mut entries), Ok(2));
+    assert_eq!(entries, [NONE, NONE, NONE, 1, NONE, 0]);
+    let mut wanted = board_t();
+    wanted[20..30].copy_from_slice(&record(AND, &[0, 1]));
+    assert_eq!(image, wanted);
+}
+
+// Board H's book.
+#[test]
+fn h_book() {
+    assert_eq!(book(&board_h()), (vec![1, 0, 2, 0, 0, 1, 2, 0], 8));
+}
+
+// H with line 3 altered to not(1): the untouched entries stay, right or wrong.
+#[test]
+fn h_altered() {
+    for (before, after) in [(1, 1), (99, 99), (NONE, NONE)] {
+        let mut image = board_h();
+        let (mut entries, _) = book(&image);
+        entries[0] = before;
+        let found = if before == NONE { 7 } else { 8 };
+        assert_eq!(calls::alter(&mut image, 3, &record(NOT, &[1]), &mut entries), Ok(found));
+        assert_eq!(entries, [after, 0, 2, 0, 0, 1, 0, 2]);
+    }
+}
+
+// Exclusive-or of 1,1,1 is 0, and of 1,1,x it is 0: as a gate and on a board.
+#[test]
+fn exclusive_or() {
+    assert_eq!(gate(XOR, 3, 3), 0);
+    assert_eq!(gate_five(XOR, &[1, 1, 1]), 0);
+    assert_eq!(gate_five(XOR, &[1, 1, X]), 0);
+    let mut records = vec![record(INPUT, &[]); 3];
+    records.push(record(XOR, &[0, 1, 2]));
+    let image = image(0, &records, &[3]);
+    let mut row = [9; 4];
+    assert_eq!(calls::five(&image, 7, 7, 3, 1, &mut row), Ok(1));
+    assert_eq!(row, [1, 1, 1, D_BAR]);
+    assert_eq!(calls::five(&image, 3, 3, 3, 0, &mut row), Ok(0));
+    assert_eq!(row, [1, 1, X, 0]);
+    assert_eq!(calls::judge(&image, 7, 3, 0), Ok(false));
+}
+
+// And of D, D-bar is 0; and of D, x is x; exclusive-or of one x line with itself is x.
+#[test]
+fn five_values_of_gates() {
+    assert_eq!(gate_five(AND, &[D, D_BAR]), 0);
+    assert_eq!(gate_five(AND, &[D, X]), X);
+    assert_eq!(gate_five(XOR, &[X, X]), X);
+    assert_eq!(gate_five(AND, &[X, 0]), 0);
+    assert_eq!(gate_five(OR, &[D, D_BAR]), 1);
+    assert_eq!(gate_five(NOT, &[D]), D_BAR);
+}
+
+// 512 lines accepted, 513 refused 2.
+#[test]
+fn line_limit() {
+    assert_eq!(calls::check(&chain(512)), Ok(Counts { lines: 512, inputs: 1, outputs: 1 }));
+    assert_eq!(calls::check(&chain(513)), Err(Refusal::Plain(2)));
+}
+
+// A 25th input at line 24: refused 4, field 0.
+#[test]
+fn input_limit() {
+    assert_eq!(calls::check(&wide(24)), Ok(Counts { lines: 25, inputs: 24, outputs: 1 }));
+    assert_eq!(calls::check(&wide(25)), Err(Refusal::BadRecord { line: 24, field: 0 }));
+}
+
+// A note of 256 accepted, of 257 refused 3; the empty image refused 1.
+#[test]
+fn note_limit() {
+    let with_note = |length: usize| [vec![0; length], board_t()].concat();
+    assert!(calls::check(&with_note(256)).is_ok());
+    assert_eq!(calls::check(&with_note(257)), Err(Refusal::Plain(3)));
+    assert_eq!(calls::check(&[]), Err(Refusal::Plain(1)));
+}
+
+// On T, pattern 1 accepted, 2 refused 8.
+#[test]
+fn pattern_limit() {
+    assert_eq!(calls::judge(&board_t(), 1, 2, 0), Ok(true));
+    assert_eq!(calls::judge(&board_t(), 1, 1, 1), Ok(false));
+    assert_eq!(calls::judge(&board_t(), 2, 2, 0), Err(Refusal::Plain(8)));
+}
+
+// The longest good image has 5,516 bytes: all limits at once.
+#[test]
+fn longest_image() {
+    let mut records = vec![record(INPUT, &[]); 24];
+    records.resize(512, record(AND, &[0, 1, 2, 3]));
+    let outputs: Vec<u16> = (448..512).collect();
+    let good = image(256, &records, &outputs);
+    assert_eq!(good.len(), 5_516);
+    assert_eq!(calls::check(&good), Ok(Counts { lines: 512, inputs: 24, outputs: 64 }));
+    let longer = image(257, &records, &outputs);
+    assert_eq!(book_text(&longer), "refused 3\n");
+}
