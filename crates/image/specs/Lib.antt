@@ -4,3 +4,4 @@ pub mod Refusals
 pub mod Scan
 pub mod Check
 pub mod Calls
+pub mod Line

@@ -3,6 +3,7 @@ pub mod asked;
 pub mod bytes;
 pub mod limits;
 pub mod outputs;
+pub mod pattern;
 pub mod records;
 pub mod trailer;
 
