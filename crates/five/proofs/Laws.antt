@@ -1,0 +1,9 @@
+pub mod Lists
+pub mod Table
+pub mod Gate
+pub mod Below
+pub mod Line
+pub mod Partial
+pub mod Driven
+pub mod Call
+pub mod Promise
