@@ -9,7 +9,7 @@ use native.Mathlib.Numerals.{add-one}
 use native.Mathlib.Omega.{arith}
 use lib.ListN.{length, getD, take, set, length-append, List·getD-append}
 use lib.Seq.{getD-at, take-all, take-append-le, take-suc-set, take-length}
-use Rattle.board.specs.Lists.{_among_, somewhere, build, grow}
+use Rattle.board.specs.Lists.{_among_, somewhere, ones, build, grow}
 
 -- which way a test goes
 pub way : (t : Bool) → (t ≡ true) ⊎ (t ≡ false)
@@ -80,6 +80,11 @@ somewhere-at t (x ∷ xs) (suc i) l e = or-right (t x) (somewhere t xs) (somewhe
 pub nowhere-at : (t : ℕ → Bool) (xs : List ℕ) → ((i : ℕ) → i < length xs → t (getD xs i 0) ≡ false) → somewhere t xs ≡ false
 nowhere-at t [] h = refl
 nowhere-at t (x ∷ xs) h = rw (h 0 (suc-le-suc zero-le), nowhere-at t xs (λ i l. h (suc i) (suc-le-suc l)))
+
+-- a sum grows by its last number
+pub ones-end : (xs : List ℕ) (x : ℕ) → ones (xs ++ (x ∷ [])) ≡ ones xs + x
+ones-end [] x = omega arith
+ones-end (y ∷ ys) x = omega (arith, ones-end ys x)
 
 -- induction from all lower numbers
 pub lower : (P : ℕ → Type 0) → ((i : ℕ) → ((j : ℕ) → j < i → P j) → P i) → (i : ℕ) → P i

@@ -1,23 +1,15 @@
--- The value of a line whose record stands at a place of some bytes.
+-- What filling rows and trying a pattern ask.
 use mathlib.Core.Path.{_≡_}
-use mathlib.Core.List.{List, map}
+use mathlib.Core.List.{List}
 use mathlib.Core.Bool.{Bool, not}
 use Prim.Native.Nat.{ℕ, _+_, _^_, _≤_, _<_}
 use lib.Dec.{eqb}
 use lib.ListN.{length, getD}
-use Rattle.board.specs.Row.{Rule, row}
+use Rattle.board.specs.Row.{row}
 use Rattle.board.specs.Gate.{good, site, stuck}
 use Rattle.board.specs.declared.Fault.{Fault}
-use Rattle.image.specs.Image.{lineCount, outputCount, firstRecord, recordAt, boardOf}
+use Rattle.image.specs.Image.{lineCount, outputCount, firstRecord, boardOf}
 use Rattle.image.specs.Refusals.{Accepted}
-
--- the values at the pins of the record at place p, from a row
-abbrev pub pinsAt : List ℕ → ℕ → List ℕ → List ℕ
-pinsAt s p row = map (λ (q : ℕ). getD row q 0) (recordAt s p .pins)
-
--- the value of line i, whose record stands at place p, from a row of the lines below it
-unfoldable pub lineAt : Rule → List ℕ → ℕ → ℕ → List ℕ → ℕ
-lineAt F s p i row = F i (recordAt s p .kind) (pinsAt s p row)
 
 -- what the filler asks: where the first record stands, rows within the board, and a stuck value of 0 or 1
 pub record Fillable (s : List ℕ) (start : ℕ) (φ : Fault) (before part : List ℕ) : Type 0 where

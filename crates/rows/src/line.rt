@@ -4,14 +4,15 @@ use board::stuck_line;
 use board::stuck_pin;
 use image::bytes::byte;
 use image::bytes::word;
+use image::pattern::bit_of;
 ghost use mathlib.Core.Path.{_≡_};
 ghost use mathlib.Core.List.{_++_};
 ghost use Prim.Native.Nat.{_+_, _*_, _^_, _≤_, _<_};
 ghost use lib.ListN.{length, getD};
 ghost use Rattle.board.specs.Lists.{bit, ones};
-ghost use Rattle.board.specs.Gate.{asks, bitOf, faulty, stuck as stuckAt, heldPins};
+ghost use Rattle.board.specs.Gate.{asks, faulty, stuck as stuckAt, heldPins};
 ghost use Rattle.image.specs.Bytes.{byteAt};
-ghost use Rattle.rows.specs.Line.{pinsAt, lineAt};
+ghost use Rattle.image.specs.Line.{pinsAt, lineAt};
 
 // What a kind makes of n pins, of which s are 1.
 pub fn gate_value(kind: usize, n: usize, s: usize) -> u8
@@ -22,13 +23,6 @@ pub fn gate_value(kind: usize, n: usize, s: usize) -> u8
     let one = s == 1;
     let kinds = [false, all, !all, all, !all, some, !some, one, !one];
     if kind < 9 { kinds[kind] as u8 } else { 0 }
-}
-
-// Bit i of a pattern.
-pub fn bit_of(x: u64, i: usize) -> u8
-    ensures { λ r. ⌜ r ≡ bitOf x i ⌝ }
-{
-    if i < 64 { ((x >> i) % 2) as u8 } else { 0 }
 }
 
 // What stands at k in the row so far: the bytes before, and the part behind them.

@@ -5,9 +5,9 @@ use Prim.Native.Nat.{ℕ, _+_, _*_}
 use native.Mathlib.Numerals.{add-one}
 use lib.ListN.{getD}
 use Rattle.board.specs.Lists.{bit, build}
+use Rattle.board.proofs.Lists.{ones-end}
 use Rattle.image.specs.Bytes.{wordAt, words}
 use Rattle.five.specs.Driven.{isDriven, drivenOf}
-use Rattle.five.proofs.Laws.Lists.{ones-end}
 
 module _ (row s : List ℕ) (p : ℕ) where
   pub none-driven : 0 ≡ drivenOf row (words s p 0)

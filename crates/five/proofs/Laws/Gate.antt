@@ -16,9 +16,9 @@ use Rattle.board.specs.Lists.{somewhere, bit, ones, build}
 use Rattle.board.specs.Limits.{lastKind}
 use Rattle.board.specs.Gate.{kinds, asks, gate}
 use Rattle.board.specs.Five.{goodHalf, faultyHalf, pair, fillings, agreed, everyFilling, gate5}
-use Rattle.board.proofs.Lists.{way, somewhere-same, somewhere-map, build-length, build-at}
+use Rattle.board.proofs.Lists.{way, somewhere-same, somewhere-map, ones-end, build-length, build-at}
 use Rattle.five.specs.Table.{kindOf}
-use Rattle.five.proofs.Laws.Lists.{any-default, ones-end}
+use Rattle.five.proofs.Laws.Lists.{any-default}
 
 -- the opposite of a value: 0 and 1, D and D-bar change places, and an x stays x
 abbrev opposites : List ℕ

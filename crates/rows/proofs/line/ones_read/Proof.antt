@@ -7,8 +7,9 @@ use lib.ListN.{take}
 use lib.Seq.{take-all}
 use Rattle.board.specs.Lists.{ones}
 use Rattle.board.specs.Gate.{heldPins}
-use Rattle.rows.specs.Line.{pinsAt}
-use Rattle.rows.proofs.Laws.Line.{held-pins-length, ones-next}
+use Rattle.image.specs.Line.{pinsAt}
+use Rattle.image.proofs.Laws.Line.{held-pins-length}
+use Rattle.rows.proofs.Laws.Line.{ones-next}
 use borrow.Author.Needs.{needs}
 use Rattle.rows.proofs.line.ones_read.Statement.{statement}
 use Rattle.rows.proofs.line.ones_read.Tie as tie
@@ -47,7 +48,7 @@ loop-again c =
     let start = c .before .before .before .before .before .before .before in
     let a = start .args in
     let row = a .before .now ++ a .part .now in
-    let inside = rw (sym (held-pins-length (a .img .now) (a .at) row (a .fault) (start .pre .1) (a .line) ∙ sym (c .before .before .before .byte .ensures .0))) at (c .before .loop-test .taken) in
+    let inside = rw (sym (held-pins-length (a .img .now) (a .at) row (λ u v. u) (a .fault) (a .line) ∙ sym (c .before .before .before .byte .ensures .0))) at (c .before .loop-test .taken) in
     (search needs, search needs, ones-next _ (at-loop .j) _ _ inside (at-loop .inv .2) (c .pin-value .ensures .0))
 
 returns : tie.Need-returns Inv-loop μ-loop
@@ -56,7 +57,7 @@ returns c =
     let a = start .args in
     let row = a .before .now ++ a .part .now in
     let xs = heldPins (λ u v. u) (a .fault) (a .line) (pinsAt (a .img .now) (a .at) row) in
-    let all = held-pins-length (a .img .now) (a .at) row (a .fault) (start .pre .1) (a .line) in
+    let all = held-pins-length (a .img .now) (a .at) row (λ u v. u) (a .fault) (a .line) in
     c .before .loop .inv .2 ∙ ap ones (take-all (c .before .loop .j) xs (omega (arith, all, c .before .before .byte .ensures .0)))
 
 pub ones-read-spec : {M : Type 1} → statement M
