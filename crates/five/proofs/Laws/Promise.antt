@@ -12,17 +12,19 @@ use borrow.Author.Tests.{eqb-true, eqb-false}
 use Rattle.board.specs.Lists.{somewhere, bit, ones}
 use Rattle.board.specs.Board.{inputs, Low}
 use Rattle.board.specs.Row.{value}
-use Rattle.board.specs.Gate.{bitOf, good, faulty}
+use Rattle.board.specs.Gate.{bitOf, good, faulty, stuck}
 use Rattle.board.specs.Test.{differs, shows}
 use Rattle.board.specs.Five.{goodHalf, faultyHalf, five, partial, Completes}
+use Rattle.board.specs.declared.Fault.{Fault}
 use Rattle.board.specs.declared.Fault.the-variants.{Line}
 use Rattle.board.proofs.Lists.{way, or-true, or-right, where-passes, passes-somewhere}
 use Rattle.board.proofs.Row.{row-at}
 use Rattle.board.proofs.Fine.{fine-low}
 use Rattle.board.proofs.Five.{every-completion, all-named}
 use Rattle.image.specs.Image.{lineCount, boardOf}
+use Rattle.image.specs.Refusals.{Accepted}
 use Rattle.image.proofs.Laws.Fine.{line-count, accepted-fine}
-use Rattle.five.specs.Driven.{isDriven, drivenOf}
+use Rattle.five.specs.Driven.{isDriven, drivenOf, driven}
 use Rattle.five.specs.Five.{fiveRow, FiveOwes}
 use Rattle.five.specs.declared.Driven.the-variants.{Count}
 use Rattle.five.proofs.Laws.Call.{count-says}
@@ -44,45 +46,61 @@ driven-apart v e =
     (λ q. let is = eqb-true v 4 q in rw is (eqb-false 4 2 refl, refl))
     (or-true (eqb v 3) (eqb v 4) e)
 
-module _ (s : List ℕ) (named values line stuck : ℕ) (old : List ℕ) (n : ℕ) (new : List ℕ) (owes : FiveOwes s named values line stuck old (Count n) new) where
+-- the row of any fault whose stuck value is 0 or 1, a line's or a pin's
+module _ (s : List ℕ) (ok : Accepted s) (φ : Fault) (held : stuck φ < 2) (named values : ℕ) where
   -- what stands in the row is the line's five value
-  row-says : (i : ℕ) → i < lineCount s → getD new i 0 ≡ value (five (Line line stuck) (partial named values)) (boardOf s) i
+  row-says : (i : ℕ) → i < lineCount s → getD (fiveRow s φ named values) i 0 ≡ value (five φ (partial named values)) (boardOf s) i
   unfolding fiveRow
-  row-says i l =
-      let (ok, held, count, filled) = count-says s named values line stuck old n new owes in
-      rw filled (row-at (five (Line line stuck) (partial named values)) (boardOf s) (lineCount s) i l)
+  row-says i l = row-at (five φ (partial named values)) (boardOf s) (lineCount s) i l
 
   low : Low (boardOf s)
-  low = fine-low (boardOf s) (accepted-fine s (count-says s named values line stuck old n new owes .0))
+  low = fine-low (boardOf s) (accepted-fine s ok)
 
-  -- wherever the row says 0, 1, D or D-bar, every completion of the partial pattern has that pair of good and faulty values there
-  pub settled-always : (x : ℕ) → Completes x named values → (i : ℕ) → i < lineCount s → (getD new i 0 ≡ 2 → ⊥)
-      → (goodHalf (getD new i 0) ≡ value (good x) (boardOf s) i) × (faultyHalf (getD new i 0) ≡ value (faulty (Line line stuck) x) (boardOf s) i)
-  settled-always x c i l settled =
-      let (ok, held, count, filled) = count-says s named values line stuck old n new owes in
+  row-settled : (x : ℕ) → Completes x named values → (i : ℕ) → i < lineCount s → (getD (fiveRow s φ named values) i 0 ≡ 2 → ⊥)
+      → (goodHalf (getD (fiveRow s φ named values) i 0) ≡ value (good x) (boardOf s) i)
+      × (faultyHalf (getD (fiveRow s φ named values) i 0) ≡ value (faulty φ x) (boardOf s) i)
+  row-settled x c i l settled =
       let is = row-says i l in
-      rw is (every-completion (boardOf s) low (Line line stuck) held named values x c i (λ e. settled (is ∙ e)))
+      rw is (every-completion (boardOf s) low φ held named values x c i (λ e. settled (is ∙ e)))
 
-  driven-differs : (x : ℕ) → Completes x named values → (o : ℕ) → o < lineCount s → isDriven (getD new o 0) ≡ true → differs (boardOf s) (Line line stuck) x o ≡ true
+  driven-differs : (x : ℕ) → Completes x named values → (o : ℕ) → o < lineCount s → isDriven (getD (fiveRow s φ named values) o 0) ≡ true
+      → differs (boardOf s) φ x o ≡ true
   unfolding differs
   driven-differs x c o l d =
-      let (settled, apart) = driven-apart (getD new o 0) d in
-      let (g, f) = settled-always x c o l settled in
+      let (settled, apart) = driven-apart (getD (fiveRow s φ named values) o 0) d in
+      let (g, f) = row-settled x c o l settled in
       ap not (rw (g, f) at apart)
+
+  row-shows : 0 < driven (boardOf s) (fiveRow s φ named values) → (x : ℕ) → Completes x named values → shows (boardOf s) φ x ≡ true
+  unfolding shows drivenOf
+  row-shows some x c =
+      let t : ℕ → Bool = λ o. isDriven (getD (fiveRow s φ named values) o 0) in
+      let (o, m, d) = where-passes t (boardOf s .outs) (some-driven t (boardOf s .outs) some) in
+      let l = rw (line-count s) at (accepted-fine s ok .outs-inside o m) in
+      passes-somewhere (differs (boardOf s) φ x) (boardOf s .outs) o m (driven-differs x c o l d)
+
+  row-named : ((i : ℕ) → i < inputs (boardOf s) → bitOf named i ≡ 1) → (i : ℕ) → i < lineCount s → getD (fiveRow s φ named values) i 0 ≡ 2 → ⊥
+  row-named full i l e =
+      all-named (boardOf s) low φ held named values (lineCount s)
+      (λ j m k. full j (accepted-fine s ok .inputs-first j (rw (line-count s) m) k)) i l (sym (row-says i l) ∙ e)
+
+-- the call's row
+module _ (s : List ℕ) (named values line stuck : ℕ) (old : List ℕ) (n : ℕ) (new : List ℕ) (owes : FiveOwes s named values line stuck old (Count n) new) where
+  -- wherever it says 0, 1, D or D-bar, every completion of the partial pattern has that pair of good and faulty values there
+  pub settled-always : (x : ℕ) → Completes x named values → (i : ℕ) → i < lineCount s → (getD new i 0 ≡ 2 → ⊥)
+      → (goodHalf (getD new i 0) ≡ value (good x) (boardOf s) i) × (faultyHalf (getD new i 0) ≡ value (faulty (Line line stuck) x) (boardOf s) i)
+  settled-always =
+      let (ok, held, count, filled) = count-says s named values line stuck old n new owes in
+      rw filled (row-settled s ok (Line line stuck) held named values)
 
   -- so a count above 0 means that every completion shows the fault
   pub count-shows : 0 < n → (x : ℕ) → Completes x named values → shows (boardOf s) (Line line stuck) x ≡ true
-  unfolding shows drivenOf
-  count-shows some x c =
+  count-shows some =
       let (ok, held, count, filled) = count-says s named values line stuck old n new owes in
-      let t : ℕ → Bool = λ o. isDriven (getD new o 0) in
-      let (o, m, d) = where-passes t (boardOf s .outs) (some-driven t (boardOf s .outs) (rw count at some)) in
-      let l = rw (line-count s) at (accepted-fine s ok .outs-inside o m) in
-      passes-somewhere (differs (boardOf s) (Line line stuck) x) (boardOf s .outs) o m (driven-differs x c o l d)
+      row-shows s ok (Line line stuck) held named values (rw (count, filled) at some)
 
   -- and where no input is left unnamed no line is x
   pub named-settled : ((i : ℕ) → i < inputs (boardOf s) → bitOf named i ≡ 1) → (i : ℕ) → i < lineCount s → getD new i 0 ≡ 2 → ⊥
-  named-settled full i l e =
+  named-settled =
       let (ok, held, count, filled) = count-says s named values line stuck old n new owes in
-      all-named (boardOf s) low (Line line stuck) held named values (lineCount s)
-      (λ j m k. full j (accepted-fine s ok .inputs-first j (rw (line-count s) m) k)) i l (sym (row-says i l) ∙ e)
+      rw filled (row-named s ok (Line line stuck) held named values)
