@@ -70,47 +70,49 @@ gate-has-pin : (k : ℕ) → k < lastKind → eqb (fewest (suc k)) 0 ≡ false
 unfolding first
 gate-has-pin = first-is-smallest (λ k. eqb (fewest (suc k)) 0) lastKind
 
+-- a record whose six fields are good, as line i, may stand there
+module _ (s : List ℕ) (p i ins : ℕ) (good : (f : ℕ) → f < 6 → badField s p i ins f ≡ false) where
+  pub kind-low : byteAt s p ≤ lastKind
+  kind-low = ltb-false lastKind _ (or-false (ltb lastKind (byteAt s p)) _ (sym (kind-field s p i ins) ∙ good 0 (lit< tt)) .0)
+
+  pub count-good : (fewest (byteAt s p) ≤ byteAt s (p + 1)) × (byteAt s (p + 1) ≤ most (byteAt s p))
+  count-good =
+      let kind = byteAt s p in
+      let count = byteAt s (p + 1) in
+      let (enough, few) = or-false (ltb count (fewest kind)) (ltb (most kind) count) (sym (count-field s p i ins) ∙ good 1 (lit< tt)) in
+      (ltb-false count (fewest kind) enough, ltb-false (most kind) count few)
+
+  pub four-pins : byteAt s (p + 1) ≤ 4
+  four-pins = le-trans (count-good .1) (ltb-false 4 _ (most-four (byteAt s p) (suc-le-suc kind-low)))
+
+  pub pin-low : (j : ℕ) → j < byteAt s (p + 1) → wordAt s (p + 2 + 2 * j) < i
+  pin-low j used =
+      let count = byteAt s (p + 1) in
+      let same : j + 2 - 2 ≡ j = omega arith in
+      let pin = wordAt s (p + 2 + 2 * j) in
+      let passes = rw same at (sym (pin-field s p i ins (j + 2) (omega arith)) ∙ good (j + 2) (omega (arith, four-pins))) in
+      leb-false i pin (rw (lt-ltb j count used) at (or-false (ltb j count && leb i pin) _ passes .0))
+
+  pub good-stands : Stands i (recordAt s p)
+  good-stands =
+      let count = byteAt s (p + 1) in
+      let size : length (words s (p + 2) count) ≡ count = build-length _ count in
+      record {
+        kind = kind-low;
+        enough = rw size (count-good .0);
+        few = rw size (count-good .1);
+        below = λ q m. let (j, used, e) = among-build _ count q m in rw e (pin-low j used);
+      }
+
 module _ (s : List ℕ) (ok : Passed s) where
   -- every field of every record is good
-  field-good : (i f : ℕ) → i < lineCount s → f < 6 → badField s (recordPlace s i) i (leading (records s (firstRecord s) i)) f ≡ false
+  pub field-good : (i f : ℕ) → i < lineCount s → f < 6 → badField s (recordPlace s i) i (leading (records s (firstRecord s) i)) f ≡ false
   unfolding firstBad
   field-good i f l m =
       sym (bad-at s i f m) ∙ (rw (ok .no-bad-record) at (first-is-smallest (badAt s) (6 * lineCount s))) (6 * i + f) (omega arith)
 
   kind-good : (i : ℕ) → i < lineCount s → badKind (byteAt s (recordPlace s i)) i (leading (records s (firstRecord s) i)) ≡ false
   kind-good i l = sym (kind-field s (recordPlace s i) i _) ∙ field-good i 0 l (lit< tt)
-
-  kind-low : (i : ℕ) → i < lineCount s → byteAt s (recordPlace s i) ≤ lastKind
-  kind-low i l = ltb-false lastKind _ (or-false (ltb lastKind (byteAt s (recordPlace s i))) _ (kind-good i l) .0)
-
-  count-good : (i : ℕ) → i < lineCount s → let kind = byteAt s (recordPlace s i) in let count = byteAt s (recordPlace s i + 1) in
-      (fewest kind ≤ count) × (count ≤ most kind)
-  count-good i l =
-      let kind = byteAt s (recordPlace s i) in
-      let count = byteAt s (recordPlace s i + 1) in
-      let (enough, few) = or-false (ltb count (fewest kind)) (ltb (most kind) count) (sym (count-field s (recordPlace s i) i _) ∙ field-good i 1 l (lit< tt)) in
-      (ltb-false count (fewest kind) enough, ltb-false (most kind) count few)
-
-  pin-low : (i j : ℕ) → i < lineCount s → j < byteAt s (recordPlace s i + 1) → wordAt s (recordPlace s i + 2 + 2 * j) < i
-  pin-low i j l used =
-      let count = byteAt s (recordPlace s i + 1) in
-      let four : count ≤ 4 = le-trans (count-good i l .1) (ltb-false 4 _ (most-four (byteAt s (recordPlace s i)) (suc-le-suc (kind-low i l)))) in
-      let same : j + 2 - 2 ≡ j = omega arith in
-      let pin = wordAt s (recordPlace s i + 2 + 2 * j) in
-      let good = rw same at (sym (pin-field s (recordPlace s i) i _ (j + 2) (omega arith)) ∙ field-good i (j + 2) l (omega arith)) in
-      leb-false i pin (rw (lt-ltb j count used) at (or-false (ltb j count && leb i pin) _ good .0))
-
-  record-stands : (i : ℕ) → i < lineCount s → Stands i (recordAt s (recordPlace s i))
-  record-stands i l =
-      let kind = byteAt s (recordPlace s i) in
-      let count = byteAt s (recordPlace s i + 1) in
-      let size : length (words s (recordPlace s i + 2) count) ≡ count = build-length _ count in
-      record {
-        kind = kind-low i l;
-        enough = rw size (count-good i l .0);
-        few = rw size (count-good i l .1);
-        below = λ p m. let (j, used, e) = among-build _ count p m in rw e (pin-low i j l used);
-      }
 
   -- an input is one of those that lead
   input-leads : (i : ℕ) → i < lineCount s → byteAt s (recordPlace s i) ≡ 0 → i < inputs (boardOf s)
@@ -142,9 +144,10 @@ module _ (s : List ℕ) (ok : Passed s) where
       go : (kind : ℕ) → byteAt s (recordPlace s 0) ≡ kind → kind ≡ 0
       go zero e = refl
       go (suc k) e =
-          let some = eqb-false (fewest (suc k)) 0 (gate-has-pin k (rw e at (kind-low 0 l))) in
-          let enough = rw e at (count-good 0 l .0) in
-          absurd (not-suc-le-zero (pin-low 0 0 l (omega arith)))
+          let good : (f : ℕ) → f < 6 → badField s (recordPlace s 0) 0 (leading (records s (firstRecord s) 0)) f ≡ false = λ f m. field-good 0 f l m in
+          let some = eqb-false (fewest (suc k)) 0 (gate-has-pin k (rw e at (kind-low s (recordPlace s 0) 0 _ good))) in
+          let enough = rw e at (count-good s (recordPlace s 0) 0 _ good .0) in
+          absurd (not-suc-le-zero (pin-low s (recordPlace s 0) 0 _ good 0 (omega arith)))
 
   output-good : (j : ℕ) → j < outputCount s → badOutput s j ≡ false
   unfolding firstBadOutput
@@ -171,7 +174,7 @@ module _ (s : List ℕ) (ok : Passed s) where
       record {
         some-line = rw lines some-line;
         lines-few = rw lines few-lines;
-        records = λ i l. let m = rw lines at l in rw (at i m) (record-stands i m);
+        records = λ i l. let m = rw lines at l in rw (at i m) (good-stands s (recordPlace s i) i _ (λ f k. field-good i f m k));
         some-input = input-leads 0 some-line (first-input some-line);
         inputs-few = few-lead (lineCount s) (le-refl _);
         inputs-first = λ i l e. let m = rw lines at l in input-leads i m (rw (at i m) at e);
