@@ -1,0 +1,4 @@
+pub mod Patch
+pub mod Refused
+pub mod Board
+pub mod Meet

@@ -1,0 +1,4 @@
+pub mod Patch
+pub mod Meet
+pub mod Renew
+pub mod Alter
