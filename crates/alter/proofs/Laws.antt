@@ -2,3 +2,4 @@ pub mod Patch
 pub mod Refused
 pub mod Board
 pub mod Meet
+pub mod Renew

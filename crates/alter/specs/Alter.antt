@@ -4,21 +4,17 @@ use mathlib.Core.Option.{Option}
 use mathlib.Core.List.{List, [], _∷_, _++_}
 use Prim.Native.Nat.{ℕ}
 use lib.ListN.{length}
-use Rattle.board.specs.Book.{lineFault, renewedBook, found}
-use Rattle.image.specs.Image.{recordAt, boardOf}
+use Rattle.board.specs.Book.{found}
 use Rattle.image.specs.Refusals.{given, firstRefusal, answer}
 use Rattle.image.specs.Calls.{lineRefusals, unlessRefused}
 use Rattle.find.specs.Book.{countedSays, badBook}
 use Rattle.find.specs.declared.Counted.{Counted}
 use Rattle.alter.specs.Patch.{patched, badAlteration}
+use Rattle.alter.specs.Renew.{broughtUp}
 
 -- 1 to 5, 6, 9, 10
 unfoldable pub alterRefusals : List ℕ → List ℕ → ℕ → List ℕ → List (Option (List ℕ))
 alterRefusals s book line new = lineRefusals s line ++ (badBook s book ∷ given (badAlteration s line new) (10 ∷ []) ∷ [])
-
--- the book afterwards: Find's answer on the new board where the fault is touched, the old number where it is not
-unfoldable pub broughtUp : List ℕ → List ℕ → ℕ → List ℕ → List ℕ
-broughtUp s book line new = renewedBook lineFault (boardOf s) line (recordAt new 0) book
 
 -- what Alter owes: the count, counted from the entries, and the image and the book afterwards
 pub record AlterOwes (s book : List ℕ) (line : ℕ) (new : List ℕ) (r : Counted) (after later : List ℕ) : Type 0 where

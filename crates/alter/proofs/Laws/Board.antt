@@ -55,10 +55,10 @@ module _ (s : List ℕ) (line : ℕ) (new : List ℕ) (ten : length new ≡ 10) 
   size = patched-length s line new ten fits
 
   -- the trailer stays
-  same-lines : lineCount (patched s line new) ≡ lineCount s
+  pub same-lines : lineCount (patched s line new) ≡ lineCount s
   same-lines = rw size (word-kept s line new ten fits (length s - 12) (inr (omega (arith, record-fits s line ok inside))))
 
-  same-outputs : outputCount (patched s line new) ≡ outputCount s
+  pub same-outputs : outputCount (patched s line new) ≡ outputCount s
   same-outputs = rw size (word-kept s line new ten fits (length s - 10) (inr (omega (arith, record-fits s line ok inside))))
 
   same-distance : distance (patched s line new) ≡ distance s
@@ -189,5 +189,8 @@ module _ (s : List ℕ) (line : ℕ) (new : List ℕ) (ten : length new ≡ 10) 
         no-bad-record no-bad-output
 
     -- with the same counts
+    pub same-inputs : inputs (boardOf (patched s line new)) ≡ inputs (boardOf s)
+    same-inputs = ap inputs board-is ∙ inputs-altered (boardOf s) line (recordAt new 0) (takes s line new inside fit)
+
     pub same-counts : counts (patched s line new) ≡ counts s
-    same-counts = cc (same-lines, same-outputs, ap inputs board-is ∙ inputs-altered (boardOf s) line (recordAt new 0) (takes s line new inside fit))
+    same-counts = cc (same-lines, same-outputs, same-inputs)
