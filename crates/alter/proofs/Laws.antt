@@ -3,3 +3,4 @@ pub mod Refused
 pub mod Board
 pub mod Meet
 pub mod Renew
+pub mod Calls

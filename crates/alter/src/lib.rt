@@ -14,7 +14,7 @@ ghost use Rattle.alter.specs.Alter.{AlterOwes};
 
 // Alter: puts a new record in the image and brings the book up to date; gives how many entries are then not none, untouched ones included.
 pub fn alter(img: &mut [u8], book: &mut [Entry], line: usize, record: [u8; 10]) -> Counted
-    ensures { λ r. ⌜ AlterOwes (now (img .entry)) (now (book .entry)) line record r (now (img .exit)) (now (book .exit)) ⌝ }
+    ensures { λ r. ⌜ AlterOwes (now (img .entry)) (now (book .entry)) line «record» r (now (img .exit)) (now (book .exit)) ⌝ }
 {
     match check_line(img, line) {
         Checked::Refused(r) => Counted::Refused(r),
