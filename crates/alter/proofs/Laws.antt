@@ -4,3 +4,4 @@ pub mod Board
 pub mod Meet
 pub mod Renew
 pub mod Calls
+pub mod Runs
