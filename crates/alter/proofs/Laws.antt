@@ -5,3 +5,4 @@ pub mod Meet
 pub mod Renew
 pub mod Calls
 pub mod Runs
+pub mod Edges

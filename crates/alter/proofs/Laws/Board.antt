@@ -3,13 +3,13 @@
 use mathlib.Core.Path.{_≡_, sym, ap, _∙_, fun-ext}
 use mathlib.Core.Logic.{_⊎_, inl, inr, ⊎-elim}
 use mathlib.Core.Option.{none}
-use mathlib.Core.List.{List, [], _∷_}
+use mathlib.Core.List.{List, []}
 use mathlib.Core.Bool.{true, false}
 use Prim.Native.Nat.{ℕ, _+_, _-_, _*_, _/_, _%_, _≤_, _<_}
 use native.Mathlib.Nat.{le-of-lt, le-refl, le-trans}
 use native.Mathlib.Omega.{arith}
 use lib.Dec.{eqb, ltb, lit<}
-use lib.ListN.{length, getD, set, length-set}
+use lib.ListN.{length, set, length-set}
 use lib.Seq.{ext-getD, getD-set-same, getD-set-other}
 use borrow.Author.Tests.{eqb-true, eqb-false, ltb-true, ltb-false}
 use Rattle.board.specs.Board.{Record, leading, inputs, altered}
@@ -19,13 +19,13 @@ use Rattle.board.proofs.Lists.{way, build-same}
 use Rattle.board.proofs.Search.{first-none}
 use Rattle.image.specs.Bytes.{byteAt, wordAt, words}
 use Rattle.image.specs.Image.{lineCount, outputCount, distance, lastFour, firstRecord, recordPlace, outputAt, recordAt, records, boardOf}
-use Rattle.image.specs.Refusals.{unmarked, miscounted, misplaced, badField, badAt, firstBad, badOutput, firstBadOutput, Accepted}
+use Rattle.image.specs.Refusals.{badField, badAt, firstBad, badOutput, firstBadOutput, Accepted}
 use Rattle.image.specs.Check.{counts}
 use Rattle.image.proofs.Laws.Check.{accepted}
-use Rattle.image.proofs.Laws.Records.{records-length, records-at, lead-below, bad-at}
+use Rattle.image.proofs.Laws.Records.{records-length, records-at, lead-below}
 use Rattle.image.proofs.Laws.Fine.{passed, field-good, four-pins}
 use Rattle.alter.specs.Patch.{patched}
-use Rattle.alter.proofs.Laws.Patch.{well-placed, record-fits, patched-length, byte-new, byte-kept, word-new, word-kept, long-kept}
+use Rattle.alter.proofs.Laws.Patch.{record-fits, patched-length, byte-new, byte-kept, word-new, word-kept, long-kept}
 use Rattle.alter.proofs.Laws.Refused.{Fit, any-inputs, leading-stops, takes}
 
 -- the ten bytes of a record at place p of s are those at place q of t
@@ -41,7 +41,7 @@ module _ {s : List ℕ} {p : ℕ} {t : List ℕ} {q : ℕ} (same : Same s p t q)
       build-same _ _ (byteAt t (q + 1)) (λ j before l. same .pins j (omega arith)) in
       cc (same .kind, same .count, pins)
 
-  same-field : (i ins f : ℕ) → f < 6 → badField s p i ins f ≡ badField t q i ins f
+  pub same-field : (i ins f : ℕ) → f < 6 → badField s p i ins f ≡ badField t q i ins f
   unfolding badField
   same-field i ins f l = ⊎-elim (λ (e : eqb f 0 ≡ true). rw (e, same .kind)) (λ (e : eqb f 0 ≡ false).
       ⊎-elim (λ (g : eqb f 1 ≡ true). rw (e, g, same .kind, same .count)) (λ (g : eqb f 1 ≡ false).

@@ -1,20 +1,14 @@
 -- What Alter owes, refused or not, from which refusal is the first; and that its promise pins the outcome.
-use mathlib.Core.Path.{_≡_, sym, ap, _∙_}
+use mathlib.Core.Path.{_≡_, sym, _∙_}
 use mathlib.Core.Option.{none, some}
 use mathlib.Core.List.{List}
-use mathlib.Core.Bool.{false}
-use Prim.Native.Nat.{ℕ, _<_}
-use Rattle.image.specs.Image.{lineCount}
-use Rattle.image.specs.Refusals.{given, firstRefusal, Accepted}
+use Prim.Native.Nat.{ℕ}
+use Rattle.image.specs.Refusals.{firstRefusal}
 use Rattle.image.specs.Check.{number}
-use Rattle.image.specs.Calls.{lineRefusals}
 use Rattle.image.specs.declared.Refusal.{Refusal}
-use Rattle.image.proofs.Laws.Answer.{none-applies, not-given}
-use Rattle.image.proofs.Laws.Calls.{none-both, line-accepted}
 use Rattle.find.specs.declared.Counted.{Counted}
 use Rattle.find.specs.declared.Counted.the-variants.{Entries, Refused}
 use Rattle.find.proofs.Laws.Calls.{counted-one}
-use Rattle.alter.specs.Patch.{badAlteration}
 use Rattle.alter.specs.Renew.{Reworked}
 use Rattle.alter.specs.Alter.{alterRefusals, AlterOwes}
 

@@ -1,11 +1,11 @@
 -- Marked rows: a pin's mark from the row, and that two lines share an output in their rows of marks exactly when they meet.
-use mathlib.Core.Path.{_≡_, refl, sym, ap, _∙_}
+use mathlib.Core.Path.{_≡_, refl, sym, ap}
 use mathlib.Core.List.{List, [], _∷_}
 use mathlib.Core.Bool.{Bool, true, false, _||_, _&&_}
 use Prim.Native.Nat.{ℕ, _+_, _*_, _<_}
 use lib.Dec.{lit<, lit≤}
-use lib.ListN.{length, getD}
-use Rattle.board.specs.Lists.{somewhere, bit, on, build}
+use lib.ListN.{getD}
+use Rattle.board.specs.Lists.{somewhere, bit}
 use Rattle.board.specs.Board.{Board, Record, altered}
 use Rattle.board.specs.Row.{row}
 use Rattle.board.specs.Reach.{mark, reach, touched}
@@ -18,7 +18,7 @@ use Rattle.image.specs.Refusals.{Accepted}
 use Rattle.image.proofs.Laws.Fine.{accepted-fine, line-count}
 use Rattle.rows.specs.Line.{pinsAt}
 use Rattle.rows.proofs.Laws.Line.{pin-free}
-use Rattle.alter.specs.Meet.{meets, metRow, bothOn, sharing, sharingRow}
+use Rattle.alter.specs.Meet.{meets, metRow, sharing, sharingRow}
 
 -- the mark on pin j
 pub pin-mark : (s : List ℕ) (p : ℕ) (marks : List ℕ) (j : ℕ) → j < byteAt s (p + 1) → getD (pinsAt s p marks) j 0 ≡ getD marks (wordAt s (p + 2 + 2 * j)) 0

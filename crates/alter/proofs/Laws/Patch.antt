@@ -1,17 +1,17 @@
 -- The bytes of a patched image: the new record's in its place, and the old ones everywhere else, so that trailer and outputs stay.
-use mathlib.Core.Path.{_≡_, refl, sym, ap, _∙_}
+use mathlib.Core.Path.{_≡_, sym, ap, _∙_}
 use mathlib.Core.Logic.{_⊎_, inl, inr}
 use mathlib.Core.List.{List, _++_}
 use mathlib.Core.Bool.{not}
-use Prim.Native.Nat.{ℕ, _+_, _-_, _*_, _≤_, _<_}
+use Prim.Native.Nat.{ℕ, _+_, _-_, _≤_, _<_}
 use native.Mathlib.Omega.{arith}
 use lib.Dec.{eqb, ltb}
 use lib.ListN.{length, getD, take, drop, length-append, length-take, length-drop, List·getD-append}
 use lib.Seq.{getD-append-add, getD-take, getD-drop, length-take-le}
 use borrow.Author.Tests.{eqb-true, ltb-false, not-false}
-use Rattle.board.proofs.Lists.{or-false, build-same}
+use Rattle.board.proofs.Lists.{or-false}
 use Rattle.image.specs.Bytes.{byteAt, wordAt, longAt}
-use Rattle.image.specs.Image.{lineCount, outputCount, distance, lastFour, fullDistance, firstRecord, recordPlace, outputAt, recordAt, boardOf}
+use Rattle.image.specs.Image.{lineCount, outputCount, distance, fullDistance, recordPlace}
 use Rattle.image.specs.Refusals.{Accepted}
 use Rattle.image.proofs.Laws.Fine.{passed}
 use Rattle.alter.specs.Patch.{patched}

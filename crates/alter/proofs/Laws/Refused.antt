@@ -1,23 +1,22 @@
 -- Refusal 10: a record that it lets in may stand at its line, whose number of inputs before it does not matter, since it is a gate.
-use mathlib.Core.Path.{_≡_, refl, sym, ap, _∙_}
+use mathlib.Core.Path.{_≡_, sym, ap, _∙_}
 use mathlib.Core.Logic.{⊎-elim}
 use mathlib.Core.List.{List, [], _∷_}
 use mathlib.Core.Bool.{true, false, not, false≢true}
-use Prim.Native.Nat.{ℕ, zero, suc, _+_, _*_, _≤_, _<_}
+use Prim.Native.Nat.{ℕ, zero, suc, _≤_, _<_}
 use native.Mathlib.Omega.{arith}
-use lib.Dec.{eqb, ltb, leb}
+use lib.Dec.{eqb}
 use lib.ListN.{getD}
-use borrow.Author.Tests.{eqb-true, eqb-false, eq-eqb, ne-eqb, not-false}
-use Rattle.board.specs.Limits.{lastKind, mostInputs}
+use borrow.Author.Tests.{eqb-true, eqb-false, ne-eqb, not-false}
 use Rattle.board.specs.Board.{Record, leading, inputs}
 use Rattle.board.specs.Test.{first}
 use Rattle.board.specs.Fine.{Accepts}
-use Rattle.board.proofs.Lists.{way, or-false, nowhere-at, somewhere-at, nowhere}
+use Rattle.board.proofs.Lists.{way, or-false, somewhere-at}
 use Rattle.board.proofs.Search.{first-is-smallest}
 use Rattle.image.specs.Bytes.{byteAt}
 use Rattle.image.specs.Image.{lineCount, firstRecord, recordPlace, recordAt, boardOf}
-use Rattle.image.specs.Refusals.{badKind, badField}
-use Rattle.image.proofs.Laws.Records.{records-at, kind-field}
+use Rattle.image.specs.Refusals.{badField}
+use Rattle.image.proofs.Laws.Records.{records-at}
 use Rattle.image.proofs.Laws.Fine.{line-count, good-stands}
 use Rattle.alter.specs.Patch.{fields, wouldBeBad, badAlteration}
 

@@ -2,13 +2,13 @@
 -- fault on it is touched.
 use mathlib.Core.Path.{_≡_, refl, sym, ap, _∙_}
 use mathlib.Core.List.{List}
-use mathlib.Core.Bool.{Bool, true, false, _||_}
+use mathlib.Core.Bool.{Bool, true, false}
 use Prim.Native.Nat.{ℕ, _+_, _*_, _/_, _≤_, _<_}
 use native.Mathlib.Omega.{arith}
 use lib.ListN.{length, getD}
 use Rattle.board.specs.Lists.{bit, on}
 use Rattle.board.specs.Board.{Board, altered}
-use Rattle.board.specs.Book.{lineFault, renewed, found}
+use Rattle.board.specs.Book.{renewed, found}
 use Rattle.board.proofs.Lists.{build-at, build-same}
 use Rattle.image.specs.Image.{lineCount, recordPlace, recordAt, boardOf}
 use Rattle.image.specs.Refusals.{Accepted}

@@ -1,14 +1,13 @@
 -- Demand 3 on the call: a right book is right after the call for the image after it, refused or accepted, and so through any run of
 -- calls; and Check accepts an altered image with the same counts. One call is one alteration of the board that the image names.
-use mathlib.Core.Path.{_≡_, refl, sym, ap, _∙_}
+use mathlib.Core.Path.{_≡_, refl, ap, _∙_}
 use mathlib.Core.Option.{Option, none, some}
 use mathlib.Core.List.{List, [], _∷_}
 use Prim.Native.Nat.{ℕ, _<_}
 use lib.ListN.{length}
 use Rattle.board.specs.Book.{lineFault, Right}
 use Rattle.board.specs.Alter.{Alteration, accepted, turned-away, Run, done, next}
-use Rattle.board.specs.Fine.{Fine}
-use Rattle.board.proofs.Alter.{right-next, right-run}
+use Rattle.board.proofs.Alter.{right-next}
 use Rattle.image.specs.Image.{lineCount, boardOf}
 use Rattle.image.specs.Refusals.{given, firstRefusal, Accepted}
 use Rattle.image.specs.Calls.{lineRefusals, unlessRefused}

@@ -10,8 +10,7 @@ use Rattle.board.specs.Row.{step, row}
 use Rattle.board.specs.Reach.{mark}
 use Rattle.board.proofs.Lists.{grow-store, grow-done}
 use Rattle.board.proofs.Row.{whole-row}
-use Rattle.image.specs.Image.{lineCount, recordPlace, boardOf}
-use Rattle.rows.specs.Line.{lineAt}
+use Rattle.image.specs.Image.{lineCount, boardOf}
 use Rattle.rows.proofs.Laws.Line.{line-step}
 use borrow.Author.Needs.{needs}
 use Rattle.alter.proofs.marks.fill_marks.Statement.{statement}

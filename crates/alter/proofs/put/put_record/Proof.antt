@@ -1,11 +1,10 @@
 -- `alter::put::put_record` meets its contract: after j bytes the first j of the record stand in their place.
-use mathlib.Core.Path.{_≡_, refl, sym, ap, _∙_}
-use Prim.Native.Nat.{ℕ, _+_, _-_, _≤_, _<_}
+use mathlib.Core.Path.{_≡_, refl, _∙_}
+use Prim.Native.Nat.{_+_, _-_, _≤_, _<_}
 use native.Mathlib.Numerals.{add-one}
 use native.Mathlib.Omega.{arith}
-use lib.ListN.{length, drop, length-set}
+use lib.ListN.{length, length-set}
 use lib.Seq.{paste, paste-zero, paste-suc, take-length}
-use Rattle.image.specs.Image.{recordPlace}
 use Rattle.alter.specs.Patch.{patched}
 use borrow.Author.Needs.{needs}
 use Rattle.alter.proofs.put.put_record.Statement.{statement}

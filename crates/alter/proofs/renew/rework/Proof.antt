@@ -1,5 +1,4 @@
 -- `alter::renew::rework` meets its contract: the two rows are the marks of the board before and of the board after.
-use mathlib.Core.Path.{refl}
 use Rattle.alter.proofs.Laws.Renew.{puts, meets-after, books-after, all-done}
 use borrow.Author.Needs.{needs}
 use Rattle.alter.proofs.renew.rework.Statement.{statement}
