@@ -1,19 +1,18 @@
 -- The definitions compute: closed examples of document 01 on its boards S, T and H, each checked by running the definition.
 use mathlib.Core.Path.{_≡_, refl}
 use mathlib.Core.List.{List, [], _∷_}
-use mathlib.Core.Bool.{true, false}
-use mathlib.Core.Option.{none, some}
+use mathlib.Core.Bool.{false}
+use mathlib.Core.Option.{some}
 use Prim.Native.Nat.{ℕ}
 use Rattle.board.specs.Lists.{build}
 use Rattle.board.specs.Limits.{noneMark}
-use Rattle.board.specs.Board.{Record, Board, altered}
+use Rattle.board.specs.Board.{Record, Board}
 use Rattle.board.specs.Row.{value}
 use Rattle.board.specs.Gate.{kinds, gate}
 use Rattle.board.specs.Reach.{reach, touched}
 use Rattle.board.specs.Test.{differs, shows, first, find}
 use Rattle.board.specs.Book.{lineFault, freshBook, renewed, renewedBook, found}
 use Rattle.board.specs.Five.{everyFilling, gate5}
-use Rattle.board.specs.declared.Fault.{Fault}
 use Rattle.board.specs.declared.Fault.the-variants.{Line, Pin}
 
 gates : ℕ → List ℕ → Record
@@ -56,6 +55,12 @@ on-H = refl
 altered-H : renewedBook lineFault H 3 (gates 2 (1 ∷ [])) (99 ∷ 0 ∷ 2 ∷ 0 ∷ 0 ∷ 1 ∷ 2 ∷ 0 ∷ []) ≡ (99 ∷ 0 ∷ 2 ∷ 0 ∷ 0 ∷ 1 ∷ 0 ∷ 2 ∷ [])
 unfolding H gates renewed touched reach find first shows differs value build kinds
 altered-H = refl
+
+-- T with line 2 altered to and(0,1)
+altered-T : renewedBook lineFault T 2 (gates 3 (0 ∷ 1 ∷ [])) (noneMark ∷ noneMark ∷ 0 ∷ noneMark ∷ 0 ∷ noneMark ∷ [])
+    ≡ (noneMark ∷ noneMark ∷ noneMark ∷ 1 ∷ noneMark ∷ 0 ∷ [])
+unfolding T gates renewed touched reach find first shows differs value build kinds
+altered-T = refl
 
 -- T with line 2 altered to a buffer of line 0: line 1, cut loose, is touched, since it reached the output before
 cut-loose : renewedBook lineFault T 2 (gates 1 (0 ∷ [])) (noneMark ∷ noneMark ∷ 0 ∷ noneMark ∷ 0 ∷ noneMark ∷ [])

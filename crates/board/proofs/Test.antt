@@ -44,7 +44,7 @@ altered-off F b a r = record { lines = λ i ne. sym (getD-set-other (b .lines) a
 
 module _ (b : Board) (a : ℕ) (r : Record) (lb : Low b) (lc : Low (altered b a r)) where
   -- an alteration at a leaves what a reaches as it was
-  reach-altered : (i : ℕ) → reach b a i ≡ reach (altered b a r) a i
+  pub reach-altered : (i : ℕ) → reach b a i ≡ reach (altered b a r) a i
   reach-altered = lower _ (λ i ih.
       let c = altered b a r in
       ⊎-elim

@@ -9,7 +9,7 @@ use report::lines::refusal_line;
 use report::lines::total_line;
 use report::put::keep_last;
 use report::put::put;
-ghost use Prim.Native.Nat.{_*_, _+_, _≤_};
+ghost use Prim.Native.Nat.{_*_, _≤_};
 ghost use mathlib.Core.Path.{_≡_};
 ghost use lib.ListN.{length};
 

@@ -5,10 +5,7 @@ use crate::search::NONE;
 use crate::search::smallest;
 use board::Fault;
 ghost use mathlib.Core.Path.{_≡_};
-ghost use Prim.Native.Nat.{_*_};
-ghost use lib.ListN.{length};
 ghost use Rattle.board.specs.Book.{entry, found};
-ghost use Rattle.image.specs.Image.{lineCount};
 ghost use Rattle.find.specs.Answer.{answered, Bookable};
 ghost use Rattle.find.specs.Book.{bookOf};
 

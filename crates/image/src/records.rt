@@ -6,7 +6,7 @@ use crate::limits::MOST_INPUTS;
 use crate::trailer::first_record;
 use crate::trailer::line_count;
 ghost use mathlib.Core.Path.{_≡_};
-ghost use Prim.Native.Nat.{_+_, _*_, _≤_, _<_, _^_};
+ghost use Prim.Native.Nat.{_+_, _*_, _<_, _^_};
 ghost use lib.ListN.{getD};
 ghost use Rattle.image.specs.Refusals.{badKind, badCount, badPin, badField};
 ghost use lib.Dec.{eqb};

@@ -7,7 +7,7 @@ use crate::limits::MOST_LINES;
 use crate::limits::MOST_OUTPUTS;
 ghost use mathlib.Core.Path.{_≡_};
 ghost use Prim.Native.Nat.{_<_, _^_};
-ghost use Rattle.image.specs.Image.{lineCount, outputCount, distance, lastFour, firstRecord};
+ghost use Rattle.image.specs.Image.{lineCount, outputCount, distance, firstRecord};
 ghost use Rattle.image.specs.Refusals.{unmarked, outside, miscounted, misplaced};
 
 // The mark 42 52 44 31, as a little-endian number.

@@ -1,8 +1,8 @@
 -- Text as bytes.
 use mathlib.Core.Path.{_≡_}
 use mathlib.Core.Option.{Option·getD}
-use mathlib.Core.List.{List, [], _∷_, _++_}
-use Prim.Native.Nat.{ℕ, suc, _+_, _^_, _≤_}
+use mathlib.Core.List.{List, [], _∷_}
+use Prim.Native.Nat.{ℕ, suc, _^_, _≤_}
 use Prim.Native.Char.{code}
 use Prim.Native.String as Quoted
 use Prim.Native.String.{String}

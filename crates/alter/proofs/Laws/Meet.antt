@@ -1,28 +1,18 @@
 -- Marked rows: a pin's mark from the row, and that two lines share an output in their rows of marks exactly when they meet.
-use mathlib.Core.Path.{_≡_, refl, sym, ap}
+use mathlib.Core.Path.{_≡_, refl, ap}
 use mathlib.Core.List.{List, [], _∷_}
 use mathlib.Core.Bool.{Bool, true, false, _||_, _&&_}
-use Prim.Native.Nat.{ℕ, _+_, _*_, _<_}
-use lib.Dec.{lit<, lit≤}
-use lib.ListN.{getD}
+use Prim.Native.Nat.{ℕ}
 use Rattle.board.specs.Lists.{somewhere, bit}
 use Rattle.board.specs.Board.{Board, Record, altered}
 use Rattle.board.specs.Row.{row}
 use Rattle.board.specs.Reach.{mark, reach, touched}
-use Rattle.board.specs.declared.Fault.the-variants.{Sound}
 use Rattle.board.proofs.Lists.{somewhere-same, build-same}
 use Rattle.board.proofs.Row.{row-at}
-use Rattle.image.specs.Bytes.{byteAt, wordAt}
 use Rattle.image.specs.Image.{lineCount, boardOf}
 use Rattle.image.specs.Refusals.{Accepted}
 use Rattle.image.proofs.Laws.Fine.{accepted-fine, line-count}
-use Rattle.rows.specs.Line.{pinsAt}
-use Rattle.rows.proofs.Laws.Line.{pin-free}
 use Rattle.alter.specs.Meet.{meets, metRow, sharing, sharingRow}
-
--- the mark on pin j
-pub pin-mark : (s : List ℕ) (p : ℕ) (marks : List ℕ) (j : ℕ) → j < byteAt s (p + 1) → getD (pinsAt s p marks) j 0 ≡ getD marks (wordAt s (p + 2 + 2 * j)) 0
-pin-mark s p marks j l = sym (pin-free s p marks Sound (lit< tt) 0 j l (lit≤ tt))
 
 -- rows of marks share an output exactly when their lines meet
 pub sharing-meets : (s : List ℕ) → Accepted s → (a l : ℕ) → sharing s (row (mark a) (boardOf s) (lineCount s)) l ≡ meets (boardOf s) a l

@@ -2,7 +2,7 @@
 use mathlib.Core.Path.{_≡_, sym, ap, _∙_}
 use mathlib.Core.Logic.{⊎-elim}
 use mathlib.Core.List.{List, [], _∷_}
-use mathlib.Core.Bool.{true, false, not, false≢true}
+use mathlib.Core.Bool.{true, false, not}
 use Prim.Native.Nat.{ℕ, zero, suc, _≤_, _<_}
 use native.Mathlib.Omega.{arith}
 use lib.Dec.{eqb}
@@ -11,7 +11,7 @@ use borrow.Author.Tests.{eqb-true, eqb-false, ne-eqb, not-false}
 use Rattle.board.specs.Board.{Record, leading, inputs}
 use Rattle.board.specs.Test.{first}
 use Rattle.board.specs.Fine.{Accepts}
-use Rattle.board.proofs.Lists.{way, or-false, somewhere-at}
+use Rattle.board.proofs.Lists.{way, clash, or-false, somewhere-at}
 use Rattle.board.proofs.Search.{first-is-smallest}
 use Rattle.image.specs.Bytes.{byteAt}
 use Rattle.image.specs.Image.{lineCount, firstRecord, recordPlace, recordAt, boardOf}
@@ -40,6 +40,15 @@ pub any-inputs : (s : List ℕ) (p i m n f : ℕ) → (byteAt s p ≡ 0 → ⊥)
 unfolding badField
 any-inputs s p i m n f gate = rw (ne-eqb (byteAt s p) 0 gate)
 
+-- where a record would not be bad, each field is good
+good-fields : (new : List ℕ) (line ins : ℕ) → wouldBeBad new line ins ≡ false → (f : ℕ) → f < 6 → badField new 0 line ins f ≡ false
+good-fields new line ins good f l =
+    let bad = badField new 0 line ins in
+    ⊎-elim
+    (λ (t : bad f ≡ true). clash (wouldBeBad new line ins) (somewhere-at bad fields f l (ap bad (field-at f l) ∙ t)) good)
+    (λ t. t)
+    (way (bad f))
+
 -- what holds where refusal 10 does not apply
 pub record Fit (s : List ℕ) (line : ℕ) (new : List ℕ) : Type 0 where
   pub old-gate : byteAt s (recordPlace s line) ≡ 0 → ⊥
@@ -54,16 +63,8 @@ fit s line new e =
     record {
       old-gate = eqb-false _ 0 old;
       new-gate = eqb-false _ 0 kind;
-      good = λ f l. ap (badField new 0 line (inputs (boardOf s))) (sym (field-at f l)) ∙ nowhere-fields s line new bad f l;
+      good = good-fields new line (inputs (boardOf s)) bad;
     }
-  where
-    nowhere-fields : (s : List ℕ) (line : ℕ) (new : List ℕ) → wouldBeBad new line (inputs (boardOf s)) ≡ false → (f : ℕ) → f < 6
-        → badField new 0 line (inputs (boardOf s)) (getD fields f 0) ≡ false
-    nowhere-fields s line new bad f l =
-        ⊎-elim
-        (λ t. absurd (false≢true (sym bad ∙ somewhere-at (badField new 0 line (inputs (boardOf s))) fields f l t)))
-        (λ t. t)
-        (way (badField new 0 line (inputs (boardOf s)) (getD fields f 0)))
 
 module _ (s : List ℕ) (line : ℕ) (new : List ℕ) (inside : line < lineCount s) (fits : Fit s line new) where
   -- the board takes the record

@@ -1,5 +1,5 @@
 -- `book::read_on` ends: it counts its turns down.
-use mathlib.Core.Path.{_≡_, refl, _∙_}
+use mathlib.Core.Path.{_≡_, refl}
 use lib.ListN.{length}
 use borrow.Author.Needs.{needs}
 use Rattle.book.proofs.read_on.Statement.{statement}

@@ -21,8 +21,15 @@ map-at f (x ∷ xs) zero l = refl
 map-at f (x ∷ xs) (suc j) l = map-at f xs j (le-of-suc-le-suc l)
 
 module _ (s : List ℕ) (p : ℕ) (row : List ℕ) where
-  pins-length : length (pinsAt s p row) ≡ byteAt s (p + 1)
+  pub pins-length : length (pinsAt s p row) ≡ byteAt s (p + 1)
   pins-length = length-map (words s (p + 2) (byteAt s (p + 1))) (λ (q : ℕ). getD row q 0) ∙ build-length _ (byteAt s (p + 1))
+
+  -- the row's value at the line that pin j names
+  pub pin-at : (j : ℕ) → j < byteAt s (p + 1) → getD (pinsAt s p row) j 0 ≡ getD row (wordAt s (p + 2 + 2 * j)) 0
+  pin-at j l =
+      let line : ℕ → List ℕ → ℕ = λ k before. wordAt s (p + 2 + 2 * k) in
+      let count = byteAt s (p + 1) in
+      map-at (λ (q : ℕ). getD row q 0) (words s (p + 2) count) j (rw (build-length line count) l) ∙ ap (λ (q : ℕ). getD row q 0) (build-at line count j l)
 
   module _ (hold : ℕ → ℕ → ℕ) (φ : Fault) (i : ℕ) where
     pub held-pins-length : length (heldPins hold φ i (pinsAt s p row)) ≡ byteAt s (p + 1)
@@ -31,12 +38,7 @@ module _ (s : List ℕ) (p : ℕ) (row : List ℕ) where
     -- what a pin reads: the row's value at its line, held where the fault holds the pin
     pub pin-reads : stuck φ < 2 → (j : ℕ) → j < byteAt s (p + 1)
         → getD (heldPins hold φ i (pinsAt s p row)) j 0 ≡ heldAt hold (stuckPin φ i j) (getD row (wordAt s (p + 2 + 2 * j)) 0)
-    pin-reads ok j l =
-        let line : ℕ → List ℕ → ℕ = λ k before. wordAt s (p + 2 + 2 * k) in
-        let count = byteAt s (p + 1) in
-        let at : getD (pinsAt s p row) j 0 ≡ getD row (wordAt s (p + 2 + 2 * j)) 0 =
-        map-at (λ (q : ℕ). getD row q 0) (words s (p + 2) count) j (rw (build-length line count) l) ∙ ap (λ (q : ℕ). getD row q 0) (build-at line count j l) in
-        held-pin hold φ ok i j (pinsAt s p row) (rw pins-length l) ∙ ap (heldAt hold (stuckPin φ i j)) at
+    pin-reads ok j l = held-pin hold φ ok i j (pinsAt s p row) (rw pins-length l) ∙ ap (heldAt hold (stuckPin φ i j)) (pin-at j l)
 
 -- a line of the image's board, by its record's place
 pub line-step : (F : Rule) (s : List ℕ) (i : ℕ) (row : List ℕ) → i < lineCount s → lineAt F s (recordPlace s i) i row ≡ step F (boardOf s) i row

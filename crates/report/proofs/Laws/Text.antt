@@ -1,9 +1,8 @@
 -- Bytes put behind others, one more at a time; and how many digits a number has.
-use mathlib.Core.Path.{_≡_, refl, sym, ap, _∙_}
+use mathlib.Core.Path.{_≡_, sym, ap, _∙_}
 use mathlib.Core.Logic.{⊎-elim}
-use mathlib.Core.Option.{some, Option·getD}
-use mathlib.Core.List.{List, [], _∷_, _++_, append-assoc, append-nil}
-use mathlib.Core.Bool.{false}
+use mathlib.Core.Option.{Option·getD}
+use mathlib.Core.List.{List, _++_, append-assoc}
 use Prim.Native.Nat.{ℕ, suc, _+_, _-_, _^_, _≤_, _<_}
 use native.Mathlib.Nat.{le-trans, lt-irrefl, lt-of-lt-of-le, pow-le-pow-right}
 use native.Mathlib.Numerals.{add-one}
@@ -12,10 +11,10 @@ use lib.Dec.{leb, ltb, lit<, lit≤}
 use lib.ListN.{length, getD, take, drop, set, length-take, length-drop}
 use lib.Seq.{take-suc, take-suc-set, take-length}
 use borrow.Author.Tests.{lt-ltb, le-ltb, leb-true, leb-false}
-use Rattle.io.specs.Digits.{Fewest, digits}
+use Rattle.io.specs.Digits.{Fewest}
 use Rattle.board.proofs.Lists.{way}
 use Rattle.board.proofs.Search.{first-at}
-use Rattle.report.specs.Text.{places, decimal}
+use Rattle.report.specs.Text.{places}
 
 -- one byte more
 pub put-next : (out start bytes : List ℕ) (at i : ℕ) → at + i < length out → i < length bytes → take (at + i) out ≡ start ++ take i bytes

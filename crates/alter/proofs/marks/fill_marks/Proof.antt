@@ -11,7 +11,7 @@ use Rattle.board.specs.Reach.{mark}
 use Rattle.board.proofs.Lists.{grow-store, grow-done}
 use Rattle.board.proofs.Row.{whole-row}
 use Rattle.image.specs.Image.{lineCount, boardOf}
-use Rattle.rows.proofs.Laws.Line.{line-step}
+use Rattle.image.proofs.Laws.Line.{line-step}
 use borrow.Author.Needs.{needs}
 use Rattle.alter.proofs.marks.fill_marks.Statement.{statement}
 use Rattle.alter.proofs.marks.fill_marks.Tie as tie

@@ -9,9 +9,8 @@ use borrow.Author.Tests.{lt-ltb, le-ltb}
 use Rattle.board.specs.Lists.{on}
 use Rattle.board.proofs.Lists.{somewhere-at, nowhere-at}
 use Rattle.image.specs.Bytes.{byteAt}
-use Rattle.rows.specs.Line.{pinsAt}
-use Rattle.rows.proofs.Laws.Line.{pins-length}
-use Rattle.alter.proofs.Laws.Meet.{pin-mark}
+use Rattle.image.specs.Line.{pinsAt}
+use Rattle.image.proofs.Laws.Line.{pins-length, pin-at}
 use borrow.Author.Needs.{needs}
 use Rattle.alter.proofs.marks.has_marked_pin.Statement.{statement}
 use Rattle.alter.proofs.marks.has_marked_pin.Tie as tie
@@ -37,7 +36,7 @@ pin-reads : (c : tie.After-byte2 Inv-loop μ-loop) →
 pin-reads c =
     let at-loop = c .before .before .before in
     let a = at-loop .before .before .before .before .args in
-    ap on (pin-mark (a .img .now) (a .at) (a .row .now) (at-loop .loop .j) (used c) ∙ sym (c .byte2 .ensures .0 ∙ rw (c .before .word .ensures .0)))
+    ap on (pin-at (a .img .now) (a .at) (a .row .now) (at-loop .loop .j) (used c) ∙ sym (c .byte2 .ensures .0 ∙ rw (c .before .word .ensures .0)))
 
 add-byte : tie.Need-add-byte Inv-loop μ-loop
 add-byte c = search needs

@@ -1,5 +1,5 @@
 -- `find::search::smallest` meets its contract: two blank rows have room for the board's.
-use mathlib.Core.Path.{_≡_, sym, _∙_}
+use mathlib.Core.Path.{sym, _∙_}
 use Prim.Native.Nat.{_≤_}
 use native.Mathlib.Omega.{arith}
 use Rattle.board.specs.Limits.{mostLines}
