@@ -64,9 +64,9 @@ module _ (s : List ℕ) (named values line stuck : ℕ) (old : List ℕ) where
       → (q ≡ r) × (new ≡ later)
   five-pinned q r new later a b = (says-one q r (a .answers ∙ sym (b .answers)), a .filled ∙ sym (b .filled))
 
-  numbered : Numbered (fiveRefusals s named values line stuck old)
+  pub five-numbered : Numbered (fiveRefusals s named values line stuck old)
   unfolding fiveRefusals
-  numbered =
+  five-numbered =
       append-numbered (fault-numbered s line stuck)
       (given-numbered (badPartial (inputs (boardOf s)) named values) (8 ∷ []) (lit< tt) (given-numbered (badRow s old) (9 ∷ []) (lit< tt) none-numbered))
 
@@ -83,4 +83,4 @@ module _ (s : List ℕ) (named values line stuck : ℕ) (old : List ℕ) where
       go none h e q =
           let (ok, inside, held) = fault-accepted s line stuck (none-both (faultRefusals s line stuck) _ h .0) in
           (ok, held, rw q (cc), q)
-      go (some v) h e q = absurd (not-suc-le-zero (rw (← e) at (numbered .over v h)))
+      go (some v) h e q = absurd (not-suc-le-zero (rw (← e) at (five-numbered .over v h)))

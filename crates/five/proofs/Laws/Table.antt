@@ -8,6 +8,7 @@ use Prim.Native.Nat.{ℕ, zero, suc, _+_, _/_, _%_, _<_}
 use native.Mathlib.Nat.{add-zero, zero-add, add-suc, suc-add, le-of-suc-le-suc, not-suc-le-zero}
 use native.Mathlib.Omega.{arith}
 use lib.Dec.{T, eqb, ltb, eqb→eq, ltb→lt}
+use mir.Facts.{and-yes}
 use lib.ListN.{length, getD, List·getD-eq-default}
 use borrow.Author.Tests.{ltb-true, ltb-false}
 use Rattle.board.specs.Gate.{kinds}
@@ -20,18 +21,10 @@ abbrev pub every : (ℕ → ℕ → Bool) → ℕ → List ℕ → Bool
 every f i [] = true
 every f i (x ∷ xs) = f i x && every f (suc i) xs
 
-left : (a b : Bool) → T (a && b) → T a
-left true b t = tt
-left false b t = t
-
-right : (a b : Bool) → T (a && b) → T b
-right true b t = t
-right false b t = absurd t
-
 from : (f : ℕ → ℕ → Bool) (xs : List ℕ) (i : ℕ) → T (every f i xs) → (k d : ℕ) → k < length xs → T (f (i + k) (getD xs k d))
 from f [] i t k d h = absurd (not-suc-le-zero h)
-from f (x ∷ xs) i t zero d h = rw add-zero (left (f i x) (every f (suc i) xs) t)
-from f (x ∷ xs) i t (suc k) d h = rw (add-suc, ← (suc-add i k)) (from f xs (suc i) (right (f i x) (every f (suc i) xs) t) k d (le-of-suc-le-suc h))
+from f (x ∷ xs) i t zero d h = rw add-zero (and-yes (f i x) (every f (suc i) xs) t .0)
+from f (x ∷ xs) i t (suc k) d h = rw (add-suc, ← (suc-add i k)) (from f xs (suc i) (and-yes (f i x) (every f (suc i) xs) t .1) k d (le-of-suc-le-suc h))
 
 -- a list whose entries are all below a bound
 pub getD-below : (n : ℕ) (xs : List ℕ) → T (every (λ i x. ltb x n) 0 xs) → (k d : ℕ) → d < n → getD xs k d < n
