@@ -4,13 +4,17 @@ use mathlib.Core.Option.{Option}
 use mathlib.Core.List.{List, [], _∷_, _++_}
 use Prim.Native.Nat.{ℕ}
 use lib.ListN.{length}
-use Rattle.board.specs.Book.{found}
+use Rattle.board.specs.Book.{lineFault, renewedBook, found}
+use Rattle.image.specs.Image.{recordAt, boardOf}
 use Rattle.image.specs.Refusals.{given, firstRefusal, answer}
 use Rattle.image.specs.Calls.{lineRefusals, unlessRefused}
 use Rattle.find.specs.Book.{countedSays, badBook}
 use Rattle.find.specs.declared.Counted.{Counted}
 use Rattle.alter.specs.Patch.{patched, badAlteration}
-use Rattle.alter.specs.Renew.{broughtUp}
+
+-- the book afterwards: Find's answer on the new board where the fault is touched, the old number where it is not
+unfoldable pub broughtUp : List ℕ → List ℕ → ℕ → List ℕ → List ℕ
+broughtUp s book line new = renewedBook lineFault (boardOf s) line (recordAt new 0) book
 
 -- 1 to 5, 6, 9, 10
 unfoldable pub alterRefusals : List ℕ → List ℕ → ℕ → List ℕ → List (Option (List ℕ))

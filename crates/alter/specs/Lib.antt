@@ -1,4 +1,3 @@
 pub mod Patch
-pub mod Meet
-pub mod Renew
 pub mod Alter
+pub mod Inner

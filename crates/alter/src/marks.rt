@@ -11,8 +11,8 @@ ghost use Rattle.board.specs.Lists.{somewhere, on};
 ghost use Rattle.board.specs.Row.{row as rowOf};
 ghost use Rattle.board.specs.Reach.{mark};
 ghost use Rattle.image.specs.Image.{lineCount, outputCount, boardOf};
-ghost use Rattle.image.specs.Line.{pinsAt, lineAt};
-ghost use Rattle.alter.specs.Meet.{bothOn, sharing, sharingRow, metRow, Meetable};
+ghost use Rattle.image.specs.Inner.{pinsAt, lineAt};
+ghost use Rattle.alter.specs.Inner.{bothOn, sharing, sharingRow, metRow, Meetable};
 
 // Whether a pin of the record at a place is marked.
 fn has_marked_pin(img: &[u8], at: usize, row: &[u8]) -> bool

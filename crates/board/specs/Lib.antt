@@ -3,10 +3,10 @@ pub mod Limits
 pub mod Board
 pub mod Row
 pub mod Gate
-pub mod Held
 pub mod Reach
 pub mod Test
 pub mod Book
 pub mod Fine
 pub mod Alter
 pub mod Five
+pub mod Inner

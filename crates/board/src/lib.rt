@@ -1,6 +1,6 @@
 ghost use mathlib.Core.Path.{_≡_};
 ghost use Rattle.board.specs.Gate.{site};
-ghost use Rattle.board.specs.Held.{stuckPin, stuckLine};
+ghost use Rattle.board.specs.Inner.{stuckPin, stuckLine};
 
 // What may be wrong with a board: nothing, one line held at a value for everything that reads it, or one pin of one line's gate
 // held at a value for that gate alone.

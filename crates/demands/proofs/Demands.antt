@@ -33,7 +33,7 @@ use Rattle.find.specs.Find.{foundSays, patternOf, FindOwes}
 use Rattle.find.specs.Book.{countedSays, bookRefusals, bookOf, BookOwes}
 use Rattle.find.specs.declared.Found.{Found}
 use Rattle.find.specs.declared.Counted.{Counted}
-use Rattle.alter.specs.Renew.{broughtUp}
+use Rattle.alter.specs.Alter.{broughtUp}
 use Rattle.alter.specs.Alter.{alterRefusals, AlterOwes, Calls}
 use Rattle.alter.proofs.Laws.Runs.{calls-right}
 use Rattle.demands.specs.Demands.{TurnsAway, DifferSomewhere, SmallestTest, WholeBook, BroughtUp}

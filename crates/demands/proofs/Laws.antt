@@ -30,7 +30,7 @@ use Rattle.rows.specs.Refresh.{refreshRefusals}
 use Rattle.find.specs.Book.{bookRefusals, bookOf}
 use Rattle.find.specs.declared.Counted.{Counted}
 use Rattle.alter.specs.Patch.{patched, badAlteration}
-use Rattle.alter.specs.Renew.{broughtUp}
+use Rattle.alter.specs.Alter.{broughtUp}
 use Rattle.alter.specs.Alter.{alterRefusals, AlterOwes}
 use Rattle.alter.proofs.Laws.Runs.{alter-accepted}
 use Rattle.alter.proofs.Laws.Board.{board-is}

@@ -8,8 +8,8 @@ ghost use Rattle.board.specs.Limits.{mostInputs};
 ghost use Rattle.board.specs.Board.{inputs as inputsOf};
 ghost use Rattle.board.specs.Test.{find};
 ghost use Rattle.image.specs.Image.{boardOf};
-ghost use Rattle.rows.specs.Line.{Tryable};
-ghost use Rattle.find.specs.Answer.{answered, Askable};
+ghost use Rattle.rows.specs.Inner.{Tryable};
+ghost use Rattle.find.specs.Inner.{answered, Askable};
 
 // A number in a book, and the one that stands for none.
 pub type Entry = u32;

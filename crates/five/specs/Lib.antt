@@ -1,5 +1,5 @@
 pub mod Table
-pub mod Line
 pub mod Partial
 pub mod Driven
 pub mod Five
+pub mod Inner

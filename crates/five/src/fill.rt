@@ -7,7 +7,7 @@ ghost use lib.ListN.{length};
 ghost use Rattle.board.specs.Row.{row as rowOf};
 ghost use Rattle.board.specs.Five.{five, partial};
 ghost use Rattle.image.specs.Image.{boardOf};
-ghost use Rattle.five.specs.Line.{Fillable};
+ghost use Rattle.five.specs.Inner.{Fillable};
 
 // Fills a row with the five values of a fault under a partial pattern.
 pub fn fill(img: &[u8], named: u64, values: u64, fault: Fault, row: &mut [u8])

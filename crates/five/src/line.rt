@@ -13,12 +13,12 @@ ghost use Prim.Native.Nat.{_<_};
 ghost use lib.ListN.{getD};
 ghost use Rattle.board.specs.Row.{step};
 ghost use Rattle.board.specs.Gate.{stuck as stuckAt, heldLine};
-ghost use Rattle.board.specs.Held.{heldAt};
+ghost use Rattle.board.specs.Inner.{heldAt};
 ghost use Rattle.board.specs.Five.{gate5, hold5, five, partial};
 ghost use Rattle.image.specs.Bytes.{byteAt};
 ghost use Rattle.image.specs.Image.{boardOf};
 ghost use Rattle.five.specs.Table.{kindOf, Ruled};
-ghost use Rattle.five.specs.Line.{readAt, Gated, Lined};
+ghost use Rattle.five.specs.Inner.{readAt, Gated, Lined};
 
 // The good half of each value, and the value of each pair of halves, 2 x good + faulty.
 const GOOD_HALF: [u8; 5] = [0, 1, 2, 1, 0];

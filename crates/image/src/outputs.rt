@@ -7,7 +7,7 @@ ghost use mathlib.Core.Path.{_≡_};
 ghost use Prim.Native.Nat.{_-_, _<_};
 ghost use Rattle.image.specs.Image.{outputAt};
 ghost use Rattle.image.specs.Refusals.{badOutput, firstBadOutput};
-ghost use Rattle.image.specs.Scan.{place};
+ghost use Rattle.image.specs.Inner.{place};
 
 // The line of output j.
 pub fn output(img: &[u8], j: usize) -> usize

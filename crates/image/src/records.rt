@@ -12,7 +12,7 @@ ghost use Rattle.image.specs.Refusals.{badKind, badCount, badPin, badFie
 ghost use lib.Dec.{eqb};
 ghost use Rattle.board.specs.Lists.{bit};
 ghost use Rattle.image.specs.Bytes.{byteAt};
-ghost use Rattle.image.specs.Scan.{Scanned};
+ghost use Rattle.image.specs.Inner.{Scanned};
 
 // The fewest and the most pins of each kind from 0 up.
 const FEWEST: [usize; 9] = [0, 1, 1, 2, 2, 2, 2, 2, 2];

@@ -12,7 +12,7 @@ ghost use lib.ListN.{getD};
 ghost use Rattle.board.specs.Lists.{bit, ones};
 ghost use Rattle.board.specs.Gate.{asks, faulty, stuck as stuckAt, heldPins};
 ghost use Rattle.image.specs.Bytes.{byteAt};
-ghost use Rattle.image.specs.Line.{pinsAt, lineAt};
+ghost use Rattle.image.specs.Inner.{pinsAt, lineAt};
 
 // What a kind makes of n pins, of which s are 1.
 pub fn gate_value(kind: usize, n: usize, s: usize) -> u8

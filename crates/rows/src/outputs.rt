@@ -12,7 +12,7 @@ ghost use Rattle.board.specs.Gate.{site, stuck as stuckAt};
 ghost use Rattle.board.specs.Test.{shows};
 ghost use Rattle.image.specs.Image.{lineCount, outputCount, boardOf};
 ghost use Rattle.image.specs.Refusals.{Accepted};
-ghost use Rattle.rows.specs.Line.{apart, Tryable};
+ghost use Rattle.rows.specs.Inner.{apart, Tryable};
 
 // Whether the rows differ at some output line.
 pub fn differ(img: &[u8], outputs: usize, good: &[u8], faulty: &[u8]) -> bool

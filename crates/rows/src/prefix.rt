@@ -13,7 +13,7 @@ ghost use Rattle.board.specs.Limits.{mostLines};
 ghost use Rattle.board.specs.Row.{row as rowOf};
 ghost use Rattle.board.specs.Gate.{faulty};
 ghost use Rattle.image.specs.Image.{lineCount, boardOf};
-ghost use Rattle.rows.specs.Line.{Faultable};
+ghost use Rattle.rows.specs.Inner.{Faultable};
 ghost use Rattle.rows.specs.Refresh.{refreshed};
 
 // Whether a byte is over 1.

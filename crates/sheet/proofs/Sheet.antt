@@ -9,7 +9,7 @@ use Rattle.board.specs.Lists.{build, bit}
 use Rattle.board.specs.Row.{row, value}
 use Rattle.board.specs.Gate.{kinds, good}
 use Rattle.board.specs.Five.{everyFilling}
-use Rattle.board.specs.Reach.{reach, touched}
+use Rattle.board.specs.Reach.{reach, meets, touched}
 use Rattle.board.specs.Test.{differs, shows, first, find}
 use Rattle.board.specs.Book.{renewed}
 use Rattle.board.specs.declared.Fault.the-variants.{Line}
@@ -22,7 +22,7 @@ use Rattle.five.specs.Five.{fiveRefusals, fiveRow}
 use Rattle.find.specs.Find.{patternOf}
 use Rattle.find.specs.Book.{bookRefusals, bookOf}
 use Rattle.alter.specs.Patch.{badAlteration}
-use Rattle.alter.specs.Renew.{broughtUp}
+use Rattle.alter.specs.Alter.{broughtUp}
 use Rattle.alter.specs.Alter.{alterRefusals}
 use Rattle.sheet.specs.Sheet.{Question, judges, finds, books, alters, good-row, five-row, Answers, Starred, sheet, Holds}
 
@@ -54,7 +54,7 @@ same (x ∷ xs) (y ∷ ys) = eqb x y && same xs ys
 
 -- the test: every line of the sheet has the numbers that its call owes
 agrees : List Starred → Bool
-unfolding same judgeRefusals rowsRefusals fiveRefusals fiveRow bookRefusals bookOf alterRefusals faultRefusals lineRefusals imageRefusals firstBad firstBadOutput first badField badAlteration broughtUp renewed touched reach find shows differs value build kinds everyFilling
+unfolding same judgeRefusals rowsRefusals fiveRefusals fiveRow bookRefusals bookOf alterRefusals faultRefusals lineRefusals imageRefusals firstBad firstBadOutput first badField badAlteration broughtUp renewed touched meets reach find shows differs value build kinds everyFilling
 agrees [] = true
 agrees (one ∷ more) = same (owed (one .asked)) (one .numbers) && agrees more
 

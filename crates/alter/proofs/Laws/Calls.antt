@@ -9,7 +9,7 @@ use Rattle.image.specs.declared.Refusal.{Refusal}
 use Rattle.find.specs.declared.Counted.{Counted}
 use Rattle.find.specs.declared.Counted.the-variants.{Entries, Refused}
 use Rattle.find.proofs.Laws.Calls.{counted-one}
-use Rattle.alter.specs.Renew.{Reworked}
+use Rattle.alter.specs.Inner.{Reworked}
 use Rattle.alter.specs.Alter.{alterRefusals, AlterOwes}
 
 module _ (s book : List ℕ) (line : ℕ) (new : List ℕ) where

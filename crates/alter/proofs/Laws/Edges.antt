@@ -4,7 +4,7 @@ use mathlib.Core.Path.{_≡_, sym, ap, _∙_}
 use mathlib.Core.Logic.{⊎-elim}
 use mathlib.Core.Option.{none}
 use mathlib.Core.List.{List, [], _∷_}
-use mathlib.Core.Bool.{false, not}
+use mathlib.Core.Bool.{Bool, false, not, _&&_}
 use Prim.Native.Nat.{ℕ, _+_, _*_, _/_, _<_}
 use native.Mathlib.Omega.{arith}
 use lib.Dec.{leb, lit<}
@@ -12,9 +12,9 @@ use lib.ListN.{length, getD, take, drop}
 use lib.Seq.{ext-getD, getD-take, getD-drop}
 use borrow.Author.Tests.{eq-eqb, ne-eqb, lt-leb}
 use Rattle.board.specs.Lists.{_among_, somewhere}
-use Rattle.board.specs.Board.{inputs, leading, altered}
+use Rattle.board.specs.Board.{Board, inputs, leading, altered}
 use Rattle.board.specs.Book.{lineFault, renewed}
-use Rattle.board.specs.Reach.{reach, meet, touched}
+use Rattle.board.specs.Reach.{reach, meets, touched}
 use Rattle.board.proofs.Lists.{way, clash, where-passes, nowhere-at, build-length, build-at}
 use Rattle.board.proofs.Fine.{fine-low, fine-altered}
 use Rattle.board.proofs.Test.{reach-altered}
@@ -25,7 +25,7 @@ use Rattle.image.specs.Calls.{lineRefusals}
 use Rattle.image.proofs.Laws.Answer.{next-skip}
 use Rattle.image.proofs.Laws.Fine.{passed, field-good, accepted-fine}
 use Rattle.alter.specs.Patch.{fields, badAlteration}
-use Rattle.alter.specs.Renew.{broughtUp}
+use Rattle.alter.specs.Alter.{broughtUp}
 use Rattle.alter.specs.Alter.{alterRefusals}
 use Rattle.alter.proofs.Laws.Refused.{Fit, any-inputs, field-at, takes}
 use Rattle.alter.proofs.Laws.Board.{Same, same-field}
@@ -48,6 +48,16 @@ own-same s p = record {
   count = own-byte s p 1 (lit< tt);
   pins = λ j l. let e : p + (2 + 2 * j) ≡ p + 2 + 2 * j = omega arith in own-word s p (2 + 2 * j) (omega arith) ∙ ap (wordAt s) e;
 }
+
+-- a line that reaches no output reaches none that another reaches
+meets-none : (b : Board) (a l : ℕ) → ((o : ℕ) → o among (b .outs) → reach b a o ≡ false) → meets b a l ≡ false
+unfolding meets
+meets-none b a l alone =
+    let both : ℕ → Bool = λ o. reach b a o && reach b l o in
+    ⊎-elim
+    (λ e. let (o, m, y) = where-passes both (b .outs) e in clash (both o) y (rw (alone o m)))
+    (λ e. e)
+    (way (somewhere both (b .outs)))
 
 module _ (s : List ℕ) (line : ℕ) (ok : Accepted s) (inside : line < lineCount s) where
   module _ (gate : byteAt s (recordPlace s line) ≡ 0 → ⊥) where
@@ -80,12 +90,7 @@ module _ (s : List ℕ) (line : ℕ) (ok : Accepted s) (inside : line < lineCoun
         let fine = accepted-fine s ok in
         let low = fine-low b fine in
         let later = fine-low (altered b line r) (fine-altered b line r fine (takes s line new inside fits)) in
-        ⊎-elim
-        (λ e.
-        let (o, m, y) = where-passes (meet b (altered b line r) line l) (b .outs) e in
-        clash (meet b (altered b line r) line l o) y (rw (sym (reach-altered b line r low later o) ∙ alone o m, alone o m)))
-        (λ e. e)
-        (way (somewhere (meet b (altered b line r) line l) (b .outs)))
+        rw (meets-none b line l alone, meets-none (altered b line r) line l (λ o m. sym (reach-altered b line r low later o) ∙ alone o m))
 
     pub nothing-renewed : (book : List ℕ) → broughtUp s book line new ≡ book
     unfolding broughtUp renewed

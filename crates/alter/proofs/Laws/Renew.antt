@@ -8,19 +8,20 @@ use native.Mathlib.Omega.{arith}
 use lib.ListN.{length, getD}
 use Rattle.board.specs.Lists.{bit, on}
 use Rattle.board.specs.Board.{Board, altered}
+use Rattle.board.specs.Reach.{meets, touched}
 use Rattle.board.specs.Book.{renewed, found}
 use Rattle.board.proofs.Lists.{build-at, build-same}
 use Rattle.image.specs.Image.{lineCount, recordPlace, recordAt, boardOf}
 use Rattle.image.specs.Refusals.{Accepted}
 use Rattle.image.proofs.Laws.Fine.{lines-few}
-use Rattle.find.specs.Answer.{Bookable}
+use Rattle.find.specs.Inner.{reworkedEntry, reworked, Bookable}
 use Rattle.alter.specs.Patch.{patched}
-use Rattle.alter.specs.Meet.{meets, metRow, Meetable}
-use Rattle.alter.specs.Renew.{reworkedEntry, reworked, broughtUp, Reworkable, Reworked}
+use Rattle.alter.specs.Inner.{metRow, Meetable}
+use Rattle.alter.specs.Inner.{Reworkable, Reworked}
+use Rattle.alter.specs.Alter.{broughtUp}
 use Rattle.alter.proofs.Laws.Patch.{record-fits}
 use Rattle.alter.proofs.Laws.Refused.{Fit, fit}
 use Rattle.alter.proofs.Laws.Board.{board-is, patched-accepted, same-lines, same-outputs, same-inputs}
-use Rattle.alter.proofs.Laws.Meet.{touched-is}
 
 on-bit : (t : Bool) → on (bit t) ≡ t
 on-bit true = refl
@@ -34,14 +35,14 @@ module _ (s : List ℕ) (line : ℕ) (new : List ℕ) (ten : length new ≡ 10) 
   pub renewed-is : (book : List ℕ) → length book ≡ 2 * lineCount s
       → reworked (boardOf (patched s line new)) (metRow (boardOf s) line (lineCount s)) (metRow (boardOf (patched s line new)) line (lineCount s)) book
       ≡ broughtUp s book line new
-  unfolding broughtUp reworkedEntry renewed
+  unfolding broughtUp reworkedEntry renewed touched
   renewed-is book long =
       let b = boardOf s in
       let r = recordAt new 0 in
       rw (board-is s line new ten ok inside fit)
       (build-same _ _ (length book) (λ k done h.
       let low : k / 2 < lineCount s = omega arith in
-      rw (met-at b line (lineCount s) (k / 2) low, met-at (altered b line r) line (lineCount s) (k / 2) low, touched-is b line r (k / 2))))
+      rw (met-at b line (lineCount s) (k / 2) low, met-at (altered b line r) line (lineCount s) (k / 2) low)))
 
 -- putting a record in, step by step: what each step asks, and what they leave together
 module _ {s : List ℕ} {lines ins outputs line : ℕ} {new book : List ℕ} (asked : Reworkable s lines ins outputs line new book) where

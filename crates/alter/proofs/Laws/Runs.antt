@@ -19,7 +19,7 @@ use Rattle.image.proofs.Laws.Fine.{accepted-fine}
 use Rattle.find.specs.Book.{badBook}
 use Rattle.find.specs.declared.Counted.{Counted}
 use Rattle.alter.specs.Patch.{patched, badAlteration}
-use Rattle.alter.specs.Renew.{broughtUp}
+use Rattle.alter.specs.Alter.{broughtUp}
 use Rattle.alter.specs.Alter.{alterRefusals, AlterOwes, Calls}
 use Rattle.alter.specs.Alter.{done as no-more, next as then}
 use Rattle.alter.proofs.Laws.Refused.{Fit, fit, takes}

@@ -12,12 +12,12 @@ use Rattle.board.specs.Lists.{somewhere}
 use Rattle.board.specs.Board.{Board, recordOf}
 use Rattle.board.specs.Row.{step, row}
 use Rattle.board.specs.Gate.{gate, bitOf, heldPins, heldLine}
-use Rattle.board.specs.Held.{heldAt}
+use Rattle.board.specs.Inner.{heldAt}
 use Rattle.board.specs.Five.{goodHalf, faultyHalf, pair, fillings, agreed, everyFilling, gate5, hold5, five, partial}
 use Rattle.board.specs.declared.Fault.{Fault}
 use Rattle.board.specs.declared.Fault.the-variants.{Sound, Line, Pin}
 use Rattle.board.proofs.Lists.{way, build-length, build-at}
-use Rattle.five.specs.Line.{Fives}
+use Rattle.five.specs.Inner.{Fives}
 use Rattle.five.proofs.Laws.Table.{getD-below}
 
 cond-below : (t : Bool) {a b : ℕ} → a < 5 → b < 5 → cond t a b < 5

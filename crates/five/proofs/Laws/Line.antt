@@ -13,7 +13,7 @@ use Rattle.board.specs.Limits.{lastKind}
 use Rattle.board.specs.Board.{Board, recordOf}
 use Rattle.board.specs.Row.{Rule, step, row}
 use Rattle.board.specs.Gate.{heldLine}
-use Rattle.board.specs.Held.{stuckPin, heldAt}
+use Rattle.board.specs.Inner.{stuckPin, heldAt}
 use Rattle.board.specs.Fine.{most, mostPins, Stands}
 use Rattle.board.specs.Five.{gate5, hold5, five}
 use Rattle.board.specs.declared.Fault.{Fault}
@@ -21,11 +21,11 @@ use Rattle.board.proofs.Lists.{build-length}
 use Rattle.image.specs.Bytes.{byteAt, wordAt}
 use Rattle.image.specs.Image.{lineCount, firstRecord, recordPlace, recordAt, boardOf}
 use Rattle.image.specs.Refusals.{Accepted}
-use Rattle.image.specs.Line.{lineAt}
+use Rattle.image.specs.Inner.{lineAt}
 use Rattle.image.proofs.Laws.Records.{records-at}
 use Rattle.image.proofs.Laws.Fine.{line-count, accepted-fine}
 use Rattle.image.proofs.Laws.Line.{held-pins-length, pin-reads, line-step}
-use Rattle.five.specs.Line.{readAt, Gated}
+use Rattle.five.specs.Inner.{readAt, Gated}
 use Rattle.five.proofs.Laws.Lists.{any-default}
 use Rattle.five.proofs.Laws.Table.{getD-below}
 

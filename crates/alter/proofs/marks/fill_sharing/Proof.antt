@@ -8,7 +8,7 @@ use lib.ListN.{length, take, length-set}
 use Rattle.board.specs.Lists.{bit, build, grow}
 use Rattle.board.proofs.Lists.{grow-store, grow-done}
 use Rattle.find.proofs.Laws.Book.{grown-whole}
-use Rattle.alter.specs.Meet.{sharing, sharingRow}
+use Rattle.alter.specs.Inner.{sharing, sharingRow}
 use borrow.Author.Needs.{needs}
 use Rattle.alter.proofs.marks.fill_sharing.Statement.{statement}
 use Rattle.alter.proofs.marks.fill_sharing.Tie as tie

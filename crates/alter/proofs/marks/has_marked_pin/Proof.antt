@@ -9,7 +9,7 @@ use borrow.Author.Tests.{lt-ltb, le-ltb}
 use Rattle.board.specs.Lists.{on}
 use Rattle.board.proofs.Lists.{somewhere-at, nowhere-at}
 use Rattle.image.specs.Bytes.{byteAt}
-use Rattle.image.specs.Line.{pinsAt}
+use Rattle.image.specs.Inner.{pinsAt}
 use Rattle.image.proofs.Laws.Line.{pins-length, pin-at}
 use borrow.Author.Needs.{needs}
 use Rattle.alter.proofs.marks.has_marked_pin.Statement.{statement}

@@ -3,7 +3,7 @@ use mathlib.Core.Path.{_∙_}
 use native.Mathlib.Nat.{le-of-eq}
 use native.Mathlib.Omega.{arith}
 use Rattle.image.proofs.Laws.Fine.{lines-few, outputs-few}
-use Rattle.alter.specs.Meet.{sharing}
+use Rattle.alter.specs.Inner.{sharing}
 use borrow.Author.Needs.{needs}
 use Rattle.alter.proofs.marks.is_sharing.Statement.{statement}
 use Rattle.alter.proofs.marks.is_sharing.Tie as tie

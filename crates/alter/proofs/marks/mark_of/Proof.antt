@@ -1,5 +1,5 @@
 -- `alter::marks::mark_of` meets its contract, by what its call gives.
-use Rattle.image.specs.Line.{lineAt}
+use Rattle.image.specs.Inner.{lineAt}
 use borrow.Author.Needs.{needs}
 use Rattle.alter.proofs.marks.mark_of.Statement.{statement}
 use Rattle.alter.proofs.marks.mark_of.Tie as tie

@@ -8,7 +8,7 @@ use Rattle.board.specs.Lists.{on}
 use Rattle.board.proofs.Lists.{somewhere-at, nowhere-at}
 use Rattle.image.specs.Image.{outputAt, boardOf}
 use Rattle.image.proofs.Laws.Fine.{output-count, output-at}
-use Rattle.alter.specs.Meet.{bothOn}
+use Rattle.alter.specs.Inner.{bothOn}
 use borrow.Author.Needs.{needs}
 use Rattle.alter.proofs.marks.share_output.Statement.{statement}
 use Rattle.alter.proofs.marks.share_output.Tie as tie

@@ -6,7 +6,7 @@ use lib.Dec.{lit<}
 use borrow.Author.Needs.{needs}
 use Rattle.board.specs.Five.{gate5}
 use Rattle.image.specs.Bytes.{byteAt}
-use Rattle.five.specs.Line.{readAt}
+use Rattle.five.specs.Inner.{readAt}
 use Rattle.five.proofs.Laws.Table.{getD-below}
 use Rattle.five.proofs.Laws.Gate.{ways, turned, gate-goes, turned-opposite, turned-same}
 use Rattle.five.proofs.Laws.Below.{gate-below}

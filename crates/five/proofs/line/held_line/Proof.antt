@@ -4,7 +4,7 @@ use Prim.Native.Nat.{ℕ}
 use native.Mathlib.Nat.{lt-trans}
 use lib.Dec.{lit<}
 use borrow.Author.Needs.{needs}
-use Rattle.board.specs.Held.{heldAt}
+use Rattle.board.specs.Inner.{heldAt}
 use Rattle.board.specs.Five.{hold5}
 use Rattle.board.proofs.Held.{held-line}
 use Rattle.five.proofs.Laws.Below.{held-below}

@@ -2,7 +2,7 @@
 use mathlib.Core.Path.{ap, ap₂, _∙_}
 use Prim.Native.Nat.{_+_, _*_}
 use borrow.Author.Needs.{needs}
-use Rattle.board.specs.Held.{stuckPin, heldAt}
+use Rattle.board.specs.Inner.{stuckPin, heldAt}
 use Rattle.board.specs.Five.{hold5}
 use Rattle.image.specs.Bytes.{byteAt, wordAt}
 use Rattle.five.proofs.Laws.Below.{held-below}

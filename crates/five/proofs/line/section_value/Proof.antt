@@ -4,7 +4,7 @@ use Prim.Native.Nat.{_<_}
 use lib.Dec.{lit<}
 use borrow.Author.Needs.{needs}
 use Rattle.five.specs.Table.{kindOf}
-use Rattle.five.specs.Line.{readAt}
+use Rattle.five.specs.Inner.{readAt}
 use Rattle.five.proofs.Laws.Table.{getD-below}
 use Rattle.five.proofs.Laws.Gate.{fillers, pins-read}
 use Rattle.five.proofs.Laws.Below.{gate-below}

@@ -1,4 +1,4 @@
--- What a line's five value is worked out from.
+-- What inner functions ask of each other and leave: no call's promise rests on it.
 use mathlib.Core.Path.{_≡_}
 use mathlib.Core.List.{List}
 use Prim.Native.Nat.{ℕ, _+_, _^_, _≤_, _<_}
@@ -11,7 +11,7 @@ use Rattle.board.specs.declared.Fault.{Fault}
 use Rattle.image.specs.Bytes.{byteAt}
 use Rattle.image.specs.Image.{lineCount}
 use Rattle.image.specs.Refusals.{Accepted}
-use Rattle.image.specs.Line.{pinsAt}
+use Rattle.image.specs.Inner.{pinsAt}
 
 -- every value of a row is one of the five
 abbrev pub Fives : List ℕ → Type 0

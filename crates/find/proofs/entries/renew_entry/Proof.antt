@@ -1,9 +1,9 @@
--- `alter::renew::renew_entry` meets its contract: the search is asked where the line is marked, and only there.
+-- `find::entries::renew_entry` meets its contract: the search is asked where the line is marked, and only there.
 use mathlib.Core.Path.{ap, _∙_}
 use Rattle.board.specs.Book.{entry}
 use borrow.Author.Needs.{needs}
-use Rattle.alter.proofs.renew.renew_entry.Statement.{statement}
-use Rattle.alter.proofs.renew.renew_entry.Tie as tie
+use Rattle.find.proofs.entries.renew_entry.Statement.{statement}
+use Rattle.find.proofs.entries.renew_entry.Tie as tie
 
 cast-t12 : tie.Need-cast-t12
 cast-t12 c = search needs

@@ -1,4 +1,4 @@
--- `alter::renew::renew` meets its contract: the first k entries are reworked, counted as they are written, and the rest are as they were.
+-- `find::entries::renew` meets its contract: the first k entries are reworked, counted as they are written, and the rest are as they were.
 use mathlib.Core.Path.{_≡_, refl, sym, ap, _∙_}
 use mathlib.Core.List.{List, []}
 use mathlib.Core.Bool.{not}
@@ -15,11 +15,11 @@ use Rattle.board.specs.Book.{found}
 use Rattle.board.proofs.Lists.{grow-store, grow-done}
 use Rattle.image.specs.Image.{boardOf}
 use Rattle.image.proofs.Laws.Records.{bit-below}
 use Rattle.find.proofs.Laws.Book.{found-next, grown-whole}
-use Rattle.alter.specs.Renew.{reworkedEntry}
+use Rattle.find.specs.Inner.{reworkedEntry}
 use borrow.Author.Needs.{needs}
-use Rattle.alter.proofs.renew.renew.Statement.{statement}
-use Rattle.alter.proofs.renew.renew.Tie as tie
+use Rattle.find.proofs.entries.renew.Statement.{statement}
+use Rattle.find.proofs.entries.renew.Tie as tie
 
 abbrev Inv-loop : tie.InvT-loop
 Inv-loop img lines inputs outputs before after book₀ count₀ k₀ book count k =
