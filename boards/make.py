@@ -1,9 +1,10 @@
 #!/usr/bin/env python3
-"""Makes the sample images of document 01 beside this file, and the images that the program `verdicts` is run on.
+"""Makes the sample images of document 01 beside this file.
 
-    boards/make.py          writes boards/S.img, T.img, H.img and crates/verdicts/stdin
-    boards/make.py --check  says whether those files are what this script makes
+    boards/make.py          writes boards/S.img, T.img and H.img
+    boards/make.py --check  says whether those files, and the images on the bench sheet, are what this script makes
 """
+import re
 import struct
 import sys
 from pathlib import Path
@@ -25,11 +26,6 @@ def image(records, outputs, note=b""):
     return note + b"".join(records) + b"".join(struct.pack("<H", o) for o in outputs) + trailer
 
 
-def chain(lines):
-    """A board of one input and a chain of buffers behind it."""
-    return [record(INPUT)] + [record(BUFFER, i) for i in range(lines - 1)]
-
-
 def changed(img, at, new):
     """The image with other bytes at a place, which may count from its end."""
     at %= len(img)
@@ -44,48 +40,26 @@ S = image(
 T = image([record(INPUT), record(NOT, 0), record(OR, 0, 1)], [2])
 H = image([record(INPUT), record(INPUT), record(NOT, 0), record(BUFFER, 1)], [2, 3])
 
-# what Check says of each stands in crates/verdicts/stdout, line by line
-VERDICTS = [
-    S, T, H,
-    b"",                                                # the empty image: 1
-    T[-11:],                                            # eleven bytes: 1
-    changed(T, -1, b"\x32"),                            # another mark: 1
-    image(chain(512), [511]),                           # 512 lines
-    image(chain(513), [511]),                           # 513 lines: 2
-    image([], [0]),                                     # no line: 2
-    image(chain(64), range(64)),                        # 64 outputs
-    image(chain(65), range(65)),                        # 65 outputs: 2
-    image(chain(2), []),                                # no output: 2
-    T[-12:],                                            # a trailer alone: 3
-    changed(T, -6, b"\x01"),                            # distance 0x1002C: 3
-    T[1:],                                              # distance over the image: 3
-    image(chain(3), [2], note=bytes(256)),              # a note of 256
-    image(chain(3), [2], note=bytes(257)),              # a note of 257: 3
-    image(chain(3), [2], note=T),                       # a note that holds an image
-    image([record(INPUT)] * 24 + [record(AND, 0, 23)], [24]),   # 24 inputs
-    image([record(INPUT)] * 25 + [record(AND, 0, 23)], [24]),   # a 25th input: 4 at 24.0
-    image([record(INPUT), record(NOT, 0), record(INPUT)], [2]),  # an input after a gate: 4 at 2.0
-    image([record(INPUT), record(9, 0)], [1]),          # kind 9: 4 at 1.0
-    changed(T, 21, b"\xff"),                            # 255 pins: 4 at 2.1
-    image([record(INPUT), record(NOT, 0), record(AND, 0)], [2]),  # one pin of and: 4 at 2.1
-    image([record(BUFFER, 0)], [0]),                    # a gate at line 0: 4 at 0.2
-    image([record(INPUT), record(OR, 0, 1)], [1]),      # a pin that names its own line: 4 at 1.3
-    changed(T, 28, b"\x07"),                            # an unused pin not 0: 4 at 2.5
-    image(chain(3), [3]),                               # an output not below the line count: 5 at 0
-    image(chain(3), [0, 2, 2]),                         # an output not above the one before: 5 at 2
-    image(chain(3), [0]),                               # output line 0 in first place
-]
+# the images as the bench sheet writes them out
+SHEET = HERE.parent / "crates/sheet/specs/Boards.antt"
+
+
+def on_the_sheet(name):
+    """The bytes that the sheet has for a board: the quoted texts of its definition, two digits a byte."""
+    definition = re.search(rf"^{name} =(.*?)\n\n", SHEET.read_text(), re.M | re.S).group(1)
+    return bytes.fromhex("".join(re.findall(r'"([^"]*)"', definition)).replace("/", " "))
+
 
 FILES = {
     HERE / "S.img": S,
     HERE / "T.img": T,
     HERE / "H.img": H,
-    HERE.parent / "crates/verdicts/stdin": b"".join(struct.pack("<I", len(v)) + v for v in VERDICTS),
 }
 
 if __name__ == "__main__":
     if sys.argv[1:] == ["--check"]:
         stale = [str(p) for p, data in FILES.items() if not p.exists() or p.read_bytes() != data]
+        stale += [f"{SHEET}: {name}" for name, data in (("S", S), ("T", T), ("H", H)) if on_the_sheet(name) != data]
         print("not what boards/make.py makes: " + ", ".join(stale) if stale else "boards: as made")
         sys.exit(1 if stale else 0)
     for path, data in FILES.items():
