@@ -128,12 +128,7 @@ module _ (f : ℕ → List ℕ → ℕ) where
       (λ e. (n, le-refl (suc n), e))
       (among-end (build f n) (f n (build f n)) x m)
 
-  -- a list that grows: its length, and that what grows from a right beginning is right
-  pub grow-length : (r : List ℕ) (k : ℕ) → length (grow f r k) ≡ length r + k
-  unfolding grow
-  grow-length r zero = omega arith
-  grow-length r (suc k) = simp length-append (omega (arith, grow-length r k))
-
+  -- what grows from a right beginning is right
   pub grow-build : (m k : ℕ) → grow f (build f m) k ≡ build f (m + k)
   unfolding grow build
   grow-build m zero = rw add-zero

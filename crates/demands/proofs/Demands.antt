@@ -1,6 +1,6 @@
 -- The front page: the three demands, of the calls that the bench can ask. Each call is proved to meet its promise (its `Owes` record, and
 -- the language sees to it that it ends), so what follows from the promise holds of the call, for any bytes and numbers that come in.
-use mathlib.Core.Path.{_≡_, refl, _∙_}
+use mathlib.Core.Path.{_≡_, refl}
 use mathlib.Core.Option.{Option, none}
 use mathlib.Core.List.{List, [], _∷_}
 use mathlib.Core.Bool.{true}

@@ -2,7 +2,7 @@
 use mathlib.Core.Path.{_≡_, ap}
 use mathlib.Core.List.{List}
 use Prim.Native.Nat.{ℕ}
-use Rattle.board.specs.Lists.{somewhere, bit}
+use Rattle.board.specs.Lists.{bit}
 use Rattle.board.specs.Row.{row}
 use Rattle.board.specs.Reach.{mark, reach, meets}
 use Rattle.board.proofs.Lists.{somewhere-same, build-same}

@@ -1,14 +1,13 @@
 -- Demand 3 on the call: a right book is right after the call for the image after it, refused or accepted, and so through any run of
--- calls; and Check accepts an altered image with the same counts. One call is one alteration of the board that the image names.
+-- calls; and Check accepts an altered image with the same counts.
 use mathlib.Core.Path.{_≡_, refl, ap, _∙_}
 use mathlib.Core.Option.{Option, none, some}
 use mathlib.Core.List.{List, [], _∷_}
 use Prim.Native.Nat.{ℕ, _<_}
 use lib.ListN.{length}
 use Rattle.board.specs.Book.{lineFault, Right}
-use Rattle.board.specs.Alter.{Alteration, accepted, turned-away, Run, done, next}
-use Rattle.board.proofs.Alter.{right-next}
-use Rattle.image.specs.Image.{lineCount, boardOf}
+use Rattle.board.proofs.Alter.{renewed-book-right}
+use Rattle.image.specs.Image.{lineCount, recordAt, boardOf}
 use Rattle.image.specs.Refusals.{given, firstRefusal, Accepted}
 use Rattle.image.specs.Calls.{lineRefusals, unlessRefused}
 use Rattle.image.specs.Check.{says, counts, CheckOwes}
@@ -20,8 +19,7 @@ use Rattle.find.specs.Book.{badBook}
 use Rattle.find.specs.declared.Counted.{Counted}
 use Rattle.alter.specs.Patch.{patched, badAlteration}
 use Rattle.alter.specs.Alter.{broughtUp}
-use Rattle.alter.specs.Alter.{alterRefusals, AlterOwes, Calls}
-use Rattle.alter.specs.Alter.{done as no-more, next as then}
+use Rattle.alter.specs.Alter.{alterRefusals, AlterOwes, Calls, done, next}
 use Rattle.alter.proofs.Laws.Refused.{Fit, fit, takes}
 use Rattle.alter.proofs.Laws.Board.{board-is, patched-accepted, same-counts}
 
@@ -36,25 +34,17 @@ alter-accepted s book line new e =
     (ok, inside, fit s line new (not-given (badAlteration s line new) (10 ∷ []) (none-applies rest good 1)))
 
 module _ {s book : List ℕ} {line : ℕ} {new : List ℕ} {r : Counted} {t later : List ℕ} (ten : length new ≡ 10) (owes : AlterOwes s book line new r t later) where
-  -- one call is one alteration, accepted or turned away
-  pub one-alteration : Alteration lineFault (boardOf s) book (boardOf t) later
-  unfolding broughtUp
-  one-alteration = go (firstRefusal (alterRefusals s book line new)) refl (owes .image) (owes .book-is)
-    where
-      go : (o : Option (List ℕ)) → firstRefusal (alterRefusals s book line new) ≡ o → t ≡ unlessRefused o s (patched s line new)
-          → later ≡ unlessRefused o book (broughtUp s book line new) → Alteration lineFault (boardOf s) book (boardOf t) later
-      go none e put up =
-          let (ok, inside, fits) = alter-accepted s book line new e in
-          rw (ap boardOf put ∙ board-is s line new ten ok inside fits, up) (accepted (takes s line new inside fits))
-      go (some v) e put up = rw (put, up) turned-away
-
   -- a right book stays right, whatever the call does
   pub alter-right : Right lineFault (boardOf s) book → Right lineFault (boardOf t) later
+  unfolding broughtUp
   alter-right right = go (firstRefusal (alterRefusals s book line new)) refl (owes .image) (owes .book-is)
     where
       go : (o : Option (List ℕ)) → firstRefusal (alterRefusals s book line new) ≡ o → t ≡ unlessRefused o s (patched s line new)
           → later ≡ unlessRefused o book (broughtUp s book line new) → Right lineFault (boardOf t) later
-      go none e put up = right-next lineFault one-alteration (accepted-fine s (alter-accepted s book line new e .0)) right .1
+      go none e put up =
+          let (ok, inside, fits) = alter-accepted s book line new e in
+          rw (ap boardOf put ∙ board-is s line new ten ok inside fits, up)
+          (renewed-book-right lineFault (boardOf s) line (recordAt new 0) (accepted-fine s ok) (takes s line new inside fits) book right)
       go (some v) e put up = rw (put, up) right
 
   -- an altered image is accepted by Check, with the same counts
@@ -66,10 +56,5 @@ module _ {s book : List ℕ} {line : ℕ} {new : List ℕ} {r : Counted} {t late
 
 -- through any run of calls
 pub calls-right : {s book u last : List ℕ} → Calls s book u last → Right lineFault (boardOf s) book → Right lineFault (boardOf u) last
-calls-right no-more right = right
-calls-right (then ten one more) right = calls-right more (alter-right ten one right)
-
--- which is a run of alterations
-pub calls-run : {s book u last : List ℕ} → Calls s book u last → Run lineFault (boardOf s) book (boardOf u) last
-calls-run no-more = done
-calls-run (then ten one more) = next (one-alteration ten one) (calls-run more)
+calls-right done right = right
+calls-right (next ten one more) right = calls-right more (alter-right ten one right)
