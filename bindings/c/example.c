@@ -1,0 +1,113 @@
+/* Uses each call on the sample boards, and prints its numbers, rows and books: example boards */
+#include "fortizembo.h"
+#include <inttypes.h>
+#include <stdio.h>
+#include <stdlib.h>
+
+typedef struct {
+    uint8_t bytes[256];
+    size_t length;
+} image;
+
+/* A board's image, from its file. */
+static image load(const char *folder, const char *name)
+{
+    image read = {{0}, 0};
+    char path[4096];
+    snprintf(path, sizeof path, "%s/%s.img", folder, name);
+    FILE *file = fopen(path, "rb");
+    if (file == NULL) {
+        perror(path);
+        exit(1);
+    }
+    read.length = fread(read.bytes, 1, sizeof read.bytes, file);
+    fclose(file);
+    return read;
+}
+
+/* What was asked, the number, and the values that are returned beside it. */
+static void say(const char *asked, fortizembo_answer a)
+{
+    const uint64_t values[3] = {a.first, a.second, a.third};
+    printf("%s: %" PRIu64, asked, a.number);
+    for (uint64_t i = 0; i < a.values; i++)
+        printf(" %" PRIu64, values[i]);
+    printf("\n");
+}
+
+static void print_row(const char *name, const uint8_t *row, size_t length)
+{
+    printf("  %s", name);
+    for (size_t i = 0; i < length; i++)
+        printf(" %u", row[i]);
+    printf("\n");
+}
+
+static void print_book(const uint32_t *book, size_t entries)
+{
+    printf("  book");
+    for (size_t i = 0; i < entries; i++)
+        if (book[i] == FORTIZEMBO_NONE)
+            printf(" none");
+        else
+            printf(" %" PRIu32, book[i]);
+    printf("\n");
+}
+
+/* Board S: what a fault does, and the pattern that shows it. */
+static void board_s(image s)
+{
+    uint8_t good[12], faulty[12];
+    say("check S", fortizembo_check(s.bytes, s.length));
+    say("find S 4/0", fortizembo_find(s.bytes, s.length, 4, 0));
+    say("find S 4/1", fortizembo_find(s.bytes, s.length, 4, 1));
+    say("judge S 7 4/1", fortizembo_judge(s.bytes, s.length, 7, 4, 1));
+    say("judge S 5 4/1", fortizembo_judge(s.bytes, s.length, 5, 4, 1));
+    say("rows S 6 4/1", fortizembo_rows(s.bytes, s.length, 6, 4, 1, good, 12, faulty, 12));
+    print_row("good", good, 12);
+    print_row("faulty", faulty, 12);
+    fortizembo_answer part = fortizembo_show(good, 12, faulty, 12, 1, 4);
+    say("show the faulty row from 4", part);
+    print_row("part", faulty + part.first, part.second);
+    say("show the good row from 99", fortizembo_show(good, 12, faulty, 12, 0, 99));
+}
+
+/* Board T: its book, before and after its gate is altered, and rows. */
+static void board_t(image t)
+{
+    const uint8_t and_0_1[10] = {3, 2, 0, 0, 1, 0, 0, 0, 0, 0};
+    uint32_t book[6];
+    uint8_t row[3] = {1, 9, 9};
+    say("find T 0/0", fortizembo_find(t.bytes, t.length, 0, 0));
+    say("refresh T 1 from 1", fortizembo_refresh(t.bytes, t.length, 1, 1, row, 3));
+    print_row("row", row, 3);
+    say("five T 1/1 2/0", fortizembo_five(t.bytes, t.length, 1, 1, 2, 0, row, 3));
+    print_row("row", row, 3);
+    say("book T", fortizembo_book(t.bytes, t.length, book, 6));
+    print_book(book, 6);
+    say("alter T 2", fortizembo_alter(t.bytes, t.length, book, 6, 2, and_0_1));
+    print_book(book, 6);
+    say("find T 2/1", fortizembo_find(t.bytes, t.length, 2, 1));
+}
+
+/* Board H: an untouched entry keeps what it held. */
+static void board_h(image h)
+{
+    const uint8_t not_1[10] = {2, 1, 1, 0, 0, 0, 0, 0, 0, 0};
+    uint32_t book[8];
+    say("book H", fortizembo_book(h.bytes, h.length, book, 8));
+    print_book(book, 8);
+    book[0] = 99;
+    say("alter H 3", fortizembo_alter(h.bytes, h.length, book, 8, 3, not_1));
+    print_book(book, 8);
+    say("alter H 0", fortizembo_alter(h.bytes, h.length, book, 8, 0, not_1));
+}
+
+int main(int argc, char **argv)
+{
+    const char *folder = argc > 1 ? argv[1] : "boards";
+    board_s(load(folder, "S"));
+    board_t(load(folder, "T"));
+    board_h(load(folder, "H"));
+    return 0;
+}

@@ -1,0 +1,24 @@
+//! Each call on the sample boards: cargo run --example calls
+use fortizembo::*;
+
+fn board(name: &str) -> Vec<u8> {
+    std::fs::read(format!("{}/../../boards/{name}.img", env!("CARGO_MANIFEST_DIR"))).expect("a sample board")
+}
+
+fn main() {
+    let s = board("S");
+    let (mut good, mut faulty) = ([0; 12], [0; 12]);
+    println!("check S: {:?}", check(&s));
+    println!("find S 4/1: {:?}", find(&s, 4, 1));
+    println!("judge S 7 4/1: {:?}", judge(&s, 7, 4, 1));
+    println!("rows S 6 4/1: {:?} {good:?} {faulty:?}", rows(&s, 6, 4, 1, &mut good, &mut faulty));
+    println!("show the faulty row from 4: {:?}", show(&good, &faulty, true, 4));
+
+    let mut t = board("T");
+    let (mut row, mut entries) = ([1, 9, 9], [0; 6]);
+    println!("refresh T 1 from 1: {:?} {row:?}", refresh(&t, 1, 1, &mut row));
+    println!("five T 1/1 2/0: {:?} {row:?}", five(&t, 1, 1, 2, 0, &mut row));
+    println!("book T: {:?} {entries:?}", book(&t, &mut entries));
+    let and_0_1 = [3, 2, 0, 0, 1, 0, 0, 0, 0, 0];
+    println!("alter T 2: {:?} {entries:?}", alter(&mut t, &mut entries, 2, and_0_1));
+}

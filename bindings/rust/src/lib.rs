@@ -1,0 +1,177 @@
+//! The calls of Fortizembo for Rust, over the proved archive libexports.a.
+//!
+//! Slices and types meet all that the archive leaves to its caller, so every function here is safe for any argument. Whatever is bad is
+//! refused, and then nothing that was lent is changed.
+
+mod raw;
+
+use raw::Answer;
+
+/// A number in a book.
+pub type Entry = u32;
+
+/// The entry for none.
+pub const NONE: Entry = 4_294_967_295;
+
+/// Why the bench says no, by document 01's table.
+#[derive(Clone, Copy, Debug, PartialEq, Eq)]
+pub enum Refusal {
+    Mark,
+    Counts,
+    Distance,
+    Record { line: usize, field: usize },
+    Output(usize),
+    Line,
+    Stuck,
+    Pattern,
+    Lent,
+    Alteration,
+    Row,
+}
+
+/// What Check answers.
+#[derive(Clone, Copy, Debug, PartialEq, Eq)]
+pub enum Checked {
+    Good { lines: usize, inputs: usize, outputs: usize },
+    Refused(Refusal),
+}
+
+/// What Rows and Refresh answer.
+#[derive(Clone, Copy, Debug, PartialEq, Eq)]
+pub enum Filled {
+    Done,
+    Refused(Refusal),
+}
+
+/// What Judge answers.
+#[derive(Clone, Copy, Debug, PartialEq, Eq)]
+pub enum Judged {
+    Yes,
+    No,
+    Refused(Refusal),
+}
+
+/// How many output lines hold D or D-bar.
+#[derive(Clone, Copy, Debug, PartialEq, Eq)]
+pub enum Driven {
+    Count(usize),
+    Refused(Refusal),
+}
+
+/// What Find answers.
+#[derive(Clone, Copy, Debug, PartialEq, Eq)]
+pub enum Found {
+    Pattern(u64),
+    Nothing,
+    Refused(Refusal),
+}
+
+/// How many entries of a book are not none.
+#[derive(Clone, Copy, Debug, PartialEq, Eq)]
+pub enum Counted {
+    Entries(usize),
+    Refused(Refusal),
+}
+
+/// The values of an answer that refuses nothing, or the refusal.
+fn heard(a: Answer) -> Result<[u64; 3], Refusal> {
+    Err(match a.number {
+        0 => return Ok([a.first, a.second, a.third]),
+        1 => Refusal::Mark,
+        2 => Refusal::Counts,
+        3 => Refusal::Distance,
+        4 => Refusal::Record { line: a.first as usize, field: a.second as usize },
+        5 => Refusal::Output(a.first as usize),
+        6 => Refusal::Line,
+        7 => Refusal::Stuck,
+        8 => Refusal::Pattern,
+        9 => Refusal::Lent,
+        10 => Refusal::Alteration,
+        11 => Refusal::Row,
+        n => unreachable!("no refusal has number {n}"),
+    })
+}
+
+/// Check an image: its line, input and output counts.
+pub fn check(img: &[u8]) -> Checked {
+    match heard(unsafe { raw::fortizembo_check(img.as_ptr(), img.len()) }) {
+        Ok([lines, inputs, outputs]) => {
+            Checked::Good { lines: lines as usize, inputs: inputs as usize, outputs: outputs as usize }
+        }
+        Err(r) => Checked::Refused(r),
+    }
+}
+
+fn filled(a: Answer) -> Filled {
+    match heard(a) {
+        Ok(_) => Filled::Done,
+        Err(r) => Filled::Refused(r),
+    }
+}
+
+/// Rows: fills one row with the good values of all lines and one with the faulty values.
+pub fn rows(img: &[u8], pattern: u64, line: usize, stuck: u8, good: &mut [u8], faulty: &mut [u8]) -> Filled {
+    let (g, f) = (good.as_mut_ptr(), faulty.as_mut_ptr());
+    filled(unsafe {
+        raw::fortizembo_rows(img.as_ptr(), img.len(), pattern, line, stuck, g, good.len(), f, faulty.len())
+    })
+}
+
+/// Judge: whether the pattern shows the fault.
+pub fn judge(img: &[u8], pattern: u64, line: usize, stuck: u8) -> Judged {
+    match heard(unsafe { raw::fortizembo_judge(img.as_ptr(), img.len(), pattern, line, stuck) }) {
+        Ok([0, ..]) => Judged::No,
+        Ok(_) => Judged::Yes,
+        Err(r) => Judged::Refused(r),
+    }
+}
+
+/// Refresh: rewrites a good row from a line on.
+pub fn refresh(img: &[u8], pattern: u64, line: usize, row: &mut [u8]) -> Filled {
+    filled(unsafe { raw::fortizembo_refresh(img.as_ptr(), img.len(), pattern, line, row.as_mut_ptr(), row.len()) })
+}
+
+/// Show: the very part of the good or the faulty row from a line to its end.
+pub fn show<'a>(good: &'a [u8], faulty: &'a [u8], wants_faulty: bool, start: usize) -> &'a [u8] {
+    let (g, f) = (good.as_ptr(), faulty.as_ptr());
+    let a = unsafe { raw::fortizembo_show(g, good.len(), f, faulty.len(), wants_faulty as u8, start) };
+    let row = if wants_faulty { faulty } else { good };
+    &row[a.first as usize..][..a.second as usize]
+}
+
+/// Five values: fills the row for a partial pattern.
+pub fn five(img: &[u8], named: u64, values: u64, line: usize, stuck: u8, row: &mut [u8]) -> Driven {
+    let lent = (row.as_mut_ptr(), row.len());
+    match heard(unsafe { raw::fortizembo_five(img.as_ptr(), img.len(), named, values, line, stuck, lent.0, lent.1) }) {
+        Ok([n, ..]) => Driven::Count(n as usize),
+        Err(r) => Driven::Refused(r),
+    }
+}
+
+/// Find: the smallest pattern that shows the fault.
+pub fn find(img: &[u8], line: usize, stuck: u8) -> Found {
+    let a = unsafe { raw::fortizembo_find(img.as_ptr(), img.len(), line, stuck) };
+    match heard(a) {
+        Ok(_) if a.values == 0 => Found::Nothing,
+        Ok([pattern, ..]) => Found::Pattern(pattern),
+        Err(r) => Found::Refused(r),
+    }
+}
+
+fn counted(a: Answer) -> Counted {
+    match heard(a) {
+        Ok([n, ..]) => Counted::Entries(n as usize),
+        Err(r) => Counted::Refused(r),
+    }
+}
+
+/// Book: fills entry 2 x line + stuck value with Find's pattern, or NONE.
+pub fn book(img: &[u8], entries: &mut [Entry]) -> Counted {
+    counted(unsafe { raw::fortizembo_book(img.as_ptr(), img.len(), entries.as_mut_ptr(), entries.len()) })
+}
+
+/// Alter: puts a new record in the image and brings the book up to date.
+pub fn alter(img: &mut [u8], book: &mut [Entry], line: usize, record: [u8; 10]) -> Counted {
+    let (i, b) = ((img.as_mut_ptr(), img.len()), (book.as_mut_ptr(), book.len()));
+    counted(unsafe { raw::fortizembo_alter(i.0, i.1, b.0, b.1, line, record.as_ptr()) })
+}

@@ -1,0 +1,64 @@
+//! The archive's functions, as bindings/c/fortizembo.h has them.
+
+/// An answer in numbers: 0 or a refusal's number, how many values are returned beside it, and these.
+#[repr(C)]
+#[derive(Clone, Copy)]
+pub struct Answer {
+    pub number: u64,
+    pub values: u64,
+    pub first: u64,
+    pub second: u64,
+    pub third: u64,
+}
+
+extern "C" {
+    pub fn fortizembo_check(img: *const u8, len: usize) -> Answer;
+    pub fn fortizembo_rows(
+        img: *const u8,
+        len: usize,
+        pattern: u64,
+        line: usize,
+        stuck: u8,
+        good: *mut u8,
+        good_len: usize,
+        faulty: *mut u8,
+        faulty_len: usize,
+    ) -> Answer;
+    pub fn fortizembo_judge(img: *const u8, len: usize, pattern: u64, line: usize, stuck: u8) -> Answer;
+    pub fn fortizembo_refresh(
+        img: *const u8,
+        len: usize,
+        pattern: u64,
+        line: usize,
+        row: *mut u8,
+        row_len: usize,
+    ) -> Answer;
+    pub fn fortizembo_show(
+        good: *const u8,
+        good_len: usize,
+        faulty: *const u8,
+        faulty_len: usize,
+        wants_faulty: u8,
+        start: usize,
+    ) -> Answer;
+    pub fn fortizembo_five(
+        img: *const u8,
+        len: usize,
+        named: u64,
+        values: u64,
+        line: usize,
+        stuck: u8,
+        row: *mut u8,
+        row_len: usize,
+    ) -> Answer;
+    pub fn fortizembo_find(img: *const u8, len: usize, line: usize, stuck: u8) -> Answer;
+    pub fn fortizembo_book(img: *const u8, len: usize, book: *mut u32, entries: usize) -> Answer;
+    pub fn fortizembo_alter(
+        img: *mut u8,
+        len: usize,
+        book: *mut u32,
+        entries: usize,
+        line: usize,
+        record: *const u8,
+    ) -> Answer;
+}

@@ -1,0 +1,158 @@
+#!/usr/bin/env python3
+"""The exported calls from C and Rust: the archive is proved and written, linked, and held to document 01's numbers.
+
+The archive is for x86-64. Elsewhere a cross compiler and an emulator are used where they are installed, and what is skipped is said.
+Its last line is 'N passed, M failed'.
+"""
+import os
+import platform
+import re
+import shutil
+import subprocess
+import sys
+from pathlib import Path
+
+ROOT = Path(__file__).resolve().parent.parent
+ARCHIVE = ROOT / "target/staticlib/libexports.a"
+ROOM = ROOT / "target/bindings"
+TARGET = "x86_64-unknown-linux-gnu"
+CALLS = ("alter", "book", "check", "find", "five", "judge", "refresh", "rows", "show")
+
+# the sheet of document 01, and rows worked out by hand
+C_EXAMPLE = """\
+check S: 0 12 4 1
+find S 4/0: 0 0
+find S 4/1: 0 6
+judge S 7 4/1: 0 1
+judge S 5 4/1: 0 0
+rows S 6 4/1: 0
+  good 0 1 1 0 0 1 1 0 0 0 0 0
+  faulty 0 1 1 0 1 0 0 0 0 0 0 1
+show the faulty row from 4: 0 4 8
+  part 1 0 0 0 0 0 0 1
+show the good row from 99: 0 12 0
+find T 0/0: 0
+refresh T 1 from 1: 0
+  row 1 0 1
+five T 1/1 2/0: 0 1
+  row 1 0 3
+book T: 0 2
+  book none none 0 none 0 none
+alter T 2: 0 2
+  book none none none 1 none 0
+find T 2/1: 0 0
+book H: 0 8
+  book 1 0 2 0 0 1 2 0
+alter H 3: 0 8
+  book 99 0 2 0 0 1 0 2
+alter H 0: 10
+"""
+RUST_EXAMPLE = """\
+check S: Good { lines: 12, inputs: 4, outputs: 1 }
+find S 4/1: Pattern(6)
+judge S 7 4/1: Yes
+rows S 6 4/1: Done [0, 1, 1, 0, 0, 1, 1, 0, 0, 0, 0, 0] [0, 1, 1, 0, 1, 0, 0, 0, 0, 0, 0, 1]
+show the faulty row from 4: [1, 0, 0, 0, 0, 0, 0, 1]
+refresh T 1 from 1: Done [1, 0, 1]
+five T 1/1 2/0: Count(1) [1, 0, 3]
+book T: Entries(2) [4294967295, 4294967295, 0, 4294967295, 0, 4294967295]
+alter T 2: Entries(2) [4294967295, 4294967295, 4294967295, 1, 4294967295, 0]
+"""
+
+passed = failed = 0
+
+
+def count(name, right, why=""):
+    """One check, passed or failed."""
+    global passed, failed
+    passed, failed = passed + bool(right), failed + (not right)
+    if not right:
+        print(f"FAILED: {name}: {why}")
+
+
+def end():
+    print(f"{passed} passed, {failed} failed")
+    sys.exit(1 if failed else 0)
+
+
+def run(name, command, **words):
+    """What a command writes, or nothing where it fails, which is a failed check."""
+    done = subprocess.run([str(c) for c in command], stdout=subprocess.PIPE, stderr=subprocess.STDOUT, text=True, timeout=1800, **words)
+    if done.returncode != 0:
+        count(name, False, f"exit {done.returncode}: {done.stdout[-2000:]}")
+    return done.stdout
+
+
+def compare(name, written, expected):
+    """A check for each expected line, and one that nothing else is written."""
+    lines, wanted = written.splitlines(), expected.splitlines()
+    for i, line in enumerate(wanted):
+        found = lines[i] if i < len(lines) else "nothing"
+        count(name, found == line, f"expected {line!r}, found {found!r}")
+    count(name, len(lines) == len(wanted), f"{len(lines)} lines for {len(wanted)}")
+
+
+def tools():
+    """The C compiler, its words, and what runs an x86-64 program; ends the tests in words where there is none."""
+    if platform.machine() == "x86_64":
+        return os.environ.get("CC", "cc"), [], []
+    kit = Path(subprocess.check_output(["rt", "doc"], text=True).strip()).parent.parent
+    compiler = shutil.which("x86_64-linux-gnu-gcc")
+    own = kit / "on" / platform.machine() / "toolchain/bin/qemu-x86_64"
+    emulator = shutil.which("qemu-x86_64") or shutil.which("qemu-x86_64-static") or (str(own) if own.exists() else None)
+    lacking = [n for n, t in (("x86_64-linux-gnu-gcc", compiler), ("qemu-x86_64", emulator)) if t is None]
+    if lacking:
+        print(f"SKIPPED: the archive links into x86-64 programs alone, and this {platform.machine()} has no {' and no '.join(lacking)}")
+        end()
+    return compiler, ["-static"], [emulator]
+
+
+def symbols():
+    """The archive defines the nine calls and needs nothing but memcpy and memset."""
+    listed = [line.split() for line in run("nm", ["nm", "-g", ARCHIVE]).splitlines() if re.search(r" [TU] ", line)]
+    count("defined", {f"fortizembo_{c}" for c in CALLS} == {s[-1] for s in listed if s[-2] == "T"}, listed)
+    count("needed", {s[-1] for s in listed if s[-2] == "U"} <= {"memcpy", "memset"}, listed)
+
+
+def from_c(compiler, words, runner):
+    """The example's numbers, and every refusal."""
+    strict = ["-std=c11", "-O2", "-pedantic", "-Wall", "-Wextra", "-Wconversion", "-Werror", *words]
+    for name, source in (("example", "bindings/c/example.c"), ("refusals", "tests/bindings.c")):
+        run(source, [compiler, *strict, ROOT / source, ARCHIVE, "-o", ROOM / name])
+    compare("C example", run("C example", [*runner, ROOM / "example", ROOT / "boards"]), C_EXAMPLE)
+    written = run("C refusals", [*runner, ROOM / "refusals", ROOT / "boards/T.img"])
+    counts = re.search(r"^([0-9]+) passed, 0 failed\n\Z", written, re.MULTILINE)
+    count("C refusals", counts, written)
+    global passed
+    passed += int(counts[1]) - 1 if counts else 0
+
+
+def from_rust(compiler, runner):
+    """The wrapper's tests, and its example's numbers."""
+    at = ["--offline", "--quiet", "--manifest-path", ROOT / "bindings/rust/Cargo.toml"]
+    words = dict(os.environ, FORTIZEMBO_LIB=str(ARCHIVE.parent), CARGO_TARGET_DIR=str(ROOM / "rust"))
+    if runner:
+        root = subprocess.check_output(["rustc", "--print", "sysroot"], text=True).strip()
+        if not Path(root, "lib/rustlib", TARGET).exists():
+            print(f"SKIPPED: the Rust wrapper, since rustc has no {TARGET} here")
+            return
+        at += ["--target", TARGET]
+        key = "CARGO_TARGET_" + TARGET.upper().replace("-", "_")
+        words |= {f"{key}_LINKER": compiler, f"{key}_RUNNER": " ".join(runner), "RUSTFLAGS": "-C target-feature=+crt-static"}
+    written = run("Rust tests", ["cargo", "test", *at, "--test", "calls"], env=words)
+    counts = re.search(r"test result: ok\. ([1-9][0-9]*) passed; 0 failed", written)
+    count("Rust tests", counts, written)
+    global passed
+    passed += int(counts[1]) - 1 if counts else 0
+    compare("Rust example", run("Rust example", ["cargo", "run", *at, "--example", "calls"], env=words), RUST_EXAMPLE)
+
+
+compiler, words, runner = tools()
+run("archive", ["rt", "staticlib", "exports"], cwd=ROOT)
+if failed:
+    end()
+ROOM.mkdir(parents=True, exist_ok=True)
+symbols()
+from_c(compiler, words, runner)
+from_rust(compiler, runner)
+end()
