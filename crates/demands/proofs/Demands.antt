@@ -25,8 +25,7 @@ use Rattle.rows.specs.Refresh.{refreshRefusals, RefreshOwes}
 use Rattle.rows.specs.declared.Filled.{Filled}
 use Rattle.rows.specs.declared.Judged.{Judged}
 use Rattle.five.specs.Driven.{driven}
-use Rattle.five.specs.Five.{fiveRefusals, fiveRow, FiveOwes}
-use Rattle.five.specs.Five.{says as drivenSays}
+use Rattle.five.specs.Five.{drivenSays, fiveRefusals, fiveRow, FiveOwes}
 use Rattle.five.specs.declared.Driven.{Driven}
 use Rattle.five.proofs.Laws.Call.{five-numbered}
 use Rattle.find.specs.Find.{foundSays, patternOf, FindOwes}

@@ -13,7 +13,7 @@ ghost use mathlib.Core.List.{[], _∷_};
 ghost use Rattle.image.specs.Check.{number as numberOf, says};
 ghost use Rattle.rows.specs.Rows.{filledSays};
 ghost use Rattle.rows.specs.Judge.{judgedSays};
-ghost use Rattle.five.specs.Five.{says as drivenSays};
+ghost use Rattle.five.specs.Five.{drivenSays};
 ghost use Rattle.find.specs.Find.{foundSays};
 ghost use Rattle.find.specs.Book.{countedSays};
 ghost use Rattle.exports.specs.Exported.{packed};

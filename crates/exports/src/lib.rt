@@ -10,7 +10,7 @@ ghost use Rattle.rows.specs.Judge.{JudgeOwes, judgedSays};
 ghost use Rattle.rows.specs.Refresh.{RefreshOwes};
 ghost use Rattle.rows.specs.declared.Filled.{Filled};
 ghost use Rattle.rows.specs.declared.Judged.{Judged};
-ghost use Rattle.five.specs.Five.{FiveOwes, says as drivenSays};
+ghost use Rattle.five.specs.Five.{FiveOwes, drivenSays};
 ghost use Rattle.five.specs.declared.Driven.{Driven};
 ghost use Rattle.find.specs.Find.{FindOwes, foundSays};
 ghost use Rattle.find.specs.Book.{BookOwes, countedSays};

@@ -18,9 +18,9 @@ use Rattle.five.specs.declared.Driven.{Driven}
 use Rattle.five.specs.declared.Driven.the-variants.{Count, Refused}
 
 -- 0 and the count, or a refusal
-abbrev pub says : Driven → List ℕ
-says (Count n) = 0 ∷ n ∷ []
-says (Refused r) = number r
+abbrev pub drivenSays : Driven → List ℕ
+drivenSays (Count n) = 0 ∷ n ∷ []
+drivenSays (Refused r) = number r
 
 -- 1 to 5, 6, 7, 8, 9
 unfoldable pub fiveRefusals : List ℕ → ℕ → ℕ → ℕ → ℕ → List ℕ → List (Option (List ℕ))
@@ -34,7 +34,7 @@ fiveRow s φ named values = row (five φ (partial named values)) (boardOf s) (li
 -- what the call owes: the answer, and the lent row afterwards
 pub record FiveOwes (s : List ℕ) (named values line stuck : ℕ) (old : List ℕ) (r : Driven) (new : List ℕ) : Type 0 where
   pub answers :
-      says r
+      drivenSays r
       ≡ answer (fiveRefusals s named values line stuck old) (0 ∷ driven (boardOf s) (fiveRow s (Line line stuck) named values) ∷ [])
   pub filled :
       new ≡ unlessRefused (firstRefusal (fiveRefusals s named values line stuck old)) old (fiveRow s (Line line stuck) named values)

@@ -12,7 +12,7 @@ use Rattle.rows.specs.Refresh.{RefreshOwes}
 use Rattle.rows.specs.declared.Filled.{Filled}
 use Rattle.rows.specs.declared.Judged.{Judged}
 use Rattle.rows.proofs.Laws.Calls.{rows-pinned, judge-pinned, refresh-pinned}
-use Rattle.five.specs.Five.{FiveOwes, says as drivenSays}
+use Rattle.five.specs.Five.{FiveOwes, drivenSays}
 use Rattle.five.specs.declared.Driven.{Driven}
 use Rattle.five.proofs.Laws.Call.{five-pinned}
 use Rattle.find.specs.Find.{FindOwes, foundSays}

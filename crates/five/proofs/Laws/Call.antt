@@ -19,12 +19,12 @@ use Rattle.image.proofs.Laws.Check.{number-one, not-refused}
 use Rattle.image.proofs.Laws.Calls.{append-numbered, fault-numbered, none-both, fault-accepted}
 use Rattle.five.specs.Partial.{badPartial}
 use Rattle.five.specs.Driven.{driven}
-use Rattle.five.specs.Five.{says, fiveRefusals, fiveRow, FiveOwes}
+use Rattle.five.specs.Five.{drivenSays, fiveRefusals, fiveRow, FiveOwes}
 use Rattle.five.specs.declared.Driven.{Driven}
 use Rattle.five.specs.declared.Driven.the-variants.{Count, Refused}
 
 -- two answers that say the same are one
-says-one : (q r : Driven) → says q ≡ says r → q ≡ r
+says-one : (q r : Driven) → drivenSays q ≡ drivenSays r → q ≡ r
 says-one (Count m) (Count n) e = cc
 says-one (Count m) (Refused r) e = not-refused r (m ∷ []) (sym e)
 says-one (Refused q) (Count n) e = not-refused q (n ∷ []) e

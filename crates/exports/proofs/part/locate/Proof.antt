@@ -1,9 +1,9 @@
 -- `part::locate` meets its contract: Show's part goes to the row's end, so its length tells where it begins.
-use mathlib.Core.Path.{_≡_, sym, ap, _∙_}
+use mathlib.Core.Path.{_≡_, ap}
 use mathlib.Core.Logic.{⊎-elim}
 use mathlib.Core.Bool.{cond}
 use native.Mathlib.Omega.{arith}
-use lib.ListN.{length, drop}
+use lib.ListN.{length}
 use borrow.Author.Needs.{needs}
 use Rattle.exports.proofs.Laws.Part.{part-fits, part-again}
 use Rattle.exports.proofs.part.locate.Statement.{statement}
