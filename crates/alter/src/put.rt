@@ -1,4 +1,5 @@
 // The new record: refusal 10, and its ten bytes in the image.
+use bytes::copy;
 use image::bytes::byte;
 use image::records::is_bad_field;
 use image::trailer::first_record;
@@ -46,9 +47,5 @@ pub fn put_record(img: &mut [u8], line: usize, new: &[u8])
     ensures { λ _. ⌜ now (img .exit) ≡ patched (now (img .entry)) line (now (new .entry)) ⌝ }
 {
     let at = record_place(img, line);
-    let mut j = 0;
-    while j < new.len() {
-        img[at + j] = new[j];
-        j += 1;
-    }
+    copy(new, &mut img[at..]);
 }

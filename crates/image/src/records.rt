@@ -7,7 +7,6 @@ use crate::trailer::first_record;
 use crate::trailer::line_count;
 ghost use mathlib.Core.Path.{_≡_};
 ghost use Prim.Native.Nat.{_+_, _*_, _<_, _^_};
-ghost use lib.ListN.{getD};
 ghost use Rattle.image.specs.Refusals.{badKind, badCount, badPin, badField};
 ghost use lib.Dec.{eqb};
 ghost use Rattle.board.specs.Lists.{bit};
@@ -15,16 +14,9 @@ ghost use Rattle.image.specs.Bytes.{byteAt};
 ghost use Rattle.image.specs.Inner.{Scanned};
 
 // The fewest and the most pins of each kind from 0 up.
-const FEWEST: [usize; 9] = [0, 1, 1, 2, 2, 2, 2, 2, 2];
+const FEWEST: [u8; 9] = [0, 1, 1, 2, 2, 2, 2, 2, 2];
 
-const MOST: [usize; 9] = [0, 1, 1, 4, 4, 4, 4, 4, 4];
-
-// A kind's entry in a table, 0 past its end.
-fn pins_of(table: &[usize], kind: usize) -> usize
-    ensures { λ r. ⌜ r ≡ getD (now (table .entry)) kind 0 ⌝ }
-{
-    if kind < table.len() { table[kind] } else { 0 }
-}
+const MOST: [u8; 9] = [0, 1, 1, 4, 4, 4, 4, 4, 4];
 
 fn is_bad_kind(kind: usize, line: usize, inputs: usize) -> bool
     ensures { λ r. ⌜ r ≡ badKind kind line inputs ⌝ }
@@ -35,7 +27,7 @@ fn is_bad_kind(kind: usize, line: usize, inputs: usize) -> bool
 fn is_bad_count(kind: usize, count: usize) -> bool
     ensures { λ r. ⌜ r ≡ badCount kind count ⌝ }
 {
-    (count < pins_of(&FEWEST, kind)) | (pins_of(&MOST, kind) < count)
+    (count < byte(&FEWEST, kind)) | (byte(&MOST, kind) < count)
 }
 
 fn is_bad_pin(count: usize, j: usize, pin: usize, line: usize) -> bool

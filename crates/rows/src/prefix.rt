@@ -3,6 +3,7 @@ use crate::fill::blank_row;
 use crate::fill::fill;
 use board::Fault;
 use board::site_of;
+use bytes::copy;
 use image::trailer::first_record;
 ghost use mathlib.Core.Path.{_≡_};
 ghost use Prim.Native.Nat.{_≤_, _<_};
@@ -30,25 +31,13 @@ pub fn has_over_one(s: &[u8]) -> bool
     false
 }
 
-// Copies bytes to the front of a buffer.
-fn copy_in(from: &[u8], to: &mut [u8])
-    requires { ⌜ length (now from) ≤ length (now to) ⌝ }
-    ensures { λ _. ⌜ take (length (now (from .entry))) (now (to .exit)) ≡ now (from .entry) ⌝ }
-{
-    let mut i = 0;
-    while i < from.len() {
-        to[i] = from[i];
-        i += 1;
-    }
-}
-
 // Fills a row anew from a line on: that part is lent to the filler, and the bytes before it are only read.
 pub fn refresh_from(img: &[u8], x: u64, line: usize, row: &mut [u8])
     requires { ⌜ (line ≤ length (now row)) × (length (now row) ≡ lineCount (now img)) × (length (now row) ≤ mostLines) ⌝ }
     ensures { λ _. ⌜ now (row .exit) ≡ refreshed (now (img .entry)) x line (now (row .entry)) ⌝ }
 {
     let mut before = blank_row();
-    copy_in(&row[..line], &mut before);
+    copy(&row[..line], &mut before);
     fill(
         img,
         first_record(img),
@@ -65,7 +54,7 @@ pub fn fill_faulty(img: &[u8], x: u64, fault: Fault, good: &[u8], room: &mut [u8
     ensures { λ _. ⌜ now (room .exit) ≡ rowOf (faulty fault x) (boardOf (now (img .entry))) (lineCount (now (img .entry))) ⌝ }
 {
     let site = site_of(fault);
-    copy_in(&good[..site], room);
+    copy(&good[..site], room);
     fill(
         img,
         first_record(img),

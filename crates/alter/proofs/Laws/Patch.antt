@@ -1,13 +1,13 @@
 -- The bytes of a patched image: the new record's in its place, and the old ones everywhere else, so that trailer and outputs stay.
 use mathlib.Core.Path.{_≡_, sym, ap, _∙_}
 use mathlib.Core.Logic.{_⊎_, inl, inr}
-use mathlib.Core.List.{List, _++_}
+use mathlib.Core.List.{List, [], _++_, append-nil, append-assoc}
 use mathlib.Core.Bool.{not}
 use Prim.Native.Nat.{ℕ, _+_, _-_, _≤_, _<_}
 use native.Mathlib.Omega.{arith}
 use lib.Dec.{eqb, ltb}
-use lib.ListN.{length, getD, take, drop, length-append, length-take, length-drop, List·getD-append}
-use lib.Seq.{getD-append-add, getD-take, getD-drop, length-take-le}
+use lib.ListN.{length, getD, take, drop, length-append, length-take, length-drop, drop-of-length-le, List·getD-append}
+use lib.Seq.{take-all, take-length, drop-drop, getD-append-add, getD-take, getD-drop, length-take-le}
 use borrow.Author.Tests.{eqb-true, ltb-false, not-false}
 use Rattle.board.proofs.Lists.{or-false}
 use Rattle.image.specs.Bytes.{byteAt, wordAt, longAt}
@@ -71,3 +71,13 @@ module _ (s : List ℕ) (line : ℕ) (new : List ℕ) (ten : length new ≡ 10) 
 
   pub long-kept : (k : ℕ) → recordPlace s line + 10 ≤ k → longAt (patched s line new) k ≡ longAt s k
   long-kept k l = rw (word-kept k (inr l), word-kept (k + 2) (inr (omega arith)))
+
+-- what a copy of the new record to its place leaves is the patched image
+pub pasted : (s : List ℕ) (line : ℕ) (new part : List ℕ) (at : ℕ) → at ≡ recordPlace s line → length new ≡ 10 → recordPlace s line + 10 ≤ length s
+    → part ≡ take (length new) new ++ drop (length new) (take (length s - at) (drop at s))
+    → take at s ++ (part ++ drop (length s - at) (drop at s)) ≡ patched s line new
+unfolding patched
+pasted s line new part at place ten fits e =
+    let rest : take (length s - at) (drop at s) ≡ drop at s = take-all (length s - at) (drop at s) (simp length-drop (omega arith)) in
+    let none : drop (length s - at) (drop at s) ≡ [] = drop-of-length-le (drop at s) {i = length s - at} (simp length-drop (omega arith)) in
+    rw (none, append-nil, e, rest, take-length, drop-drop (length new) at s, ten, place) (sym (append-assoc (take (recordPlace s line) s) new (drop (recordPlace s line + 10) s)))
