@@ -1,0 +1,19 @@
+-- `words::forms::form_of` meets its contract: the forms of the code are those of the table.
+use Rattle.words.specs.Parts.{parts}
+use Rattle.words.specs.Command.{table}
+use borrow.Author.Needs.{needs}
+use Rattle.words.proofs.forms.form_of.Statement.{statement}
+use Rattle.words.proofs.forms.form_of.Tie as tie
+
+slice-aggregate-first-form : tie.Need-slice-aggregate-first-form
+slice-aggregate-first-form c = search needs
+
+first-form-requires : tie.Need-first-form-requires
+first-form-requires c κs = search needs
+
+returns : tie.Need-returns
+unfolding parts table
+returns c = c .first-form .ensures
+
+pub form-of-spec : {M : Type 1} → statement M
+form-of-spec = tie.close (tie.spec slice-aggregate-first-form first-form-requires returns)
