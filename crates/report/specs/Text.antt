@@ -1,12 +1,13 @@
 -- Text as bytes.
 use mathlib.Core.Path.{_≡_}
 use mathlib.Core.Option.{Option·getD}
-use mathlib.Core.List.{List, [], _∷_}
+use mathlib.Core.List.{List, [], _∷_, _++_}
+use mathlib.Core.Bool.{cond}
 use Prim.Native.Nat.{ℕ, suc, _^_, _≤_}
 use Prim.Native.Char.{code}
 use Prim.Native.String as Quoted
 use Prim.Native.String.{String}
-use lib.Dec.{ltb}
+use lib.Dec.{ltb, eqb}
 use lib.ListN.{length, take}
 use Rattle.io.specs.Digits.{digits}
 use Rattle.board.specs.Test.{first}
@@ -23,6 +24,16 @@ places n = suc (Option·getD (first (λ k. ltb n (10 ^ suc k)) 0 20) 0)
 -- a number in decimal, without leading zeros
 unfoldable pub decimal : ℕ → List ℕ
 decimal n = digits 10 (places n) n
+
+-- the byte of a form where a number goes, #
+abbrev pub place : ℕ
+place = 35
+
+-- a form with numbers in their places, each in decimal
+abbrev pub spelled : List ℕ → List ℕ → List ℕ
+spelled [] ns = []
+spelled (c ∷ cs) [] = c ∷ spelled cs []
+spelled (c ∷ cs) (n ∷ ns) = cond (eqb c place) (decimal n ++ spelled cs ns) (c ∷ spelled cs (n ∷ ns))
 
 -- the first r bytes of a buffer are the text
 pub record Written (r : ℕ) (out : List ℕ) (t : List ℕ) : Type 0 where

@@ -1,0 +1,107 @@
+-- `answers::hex::hex_text` meets its contract: what is made, and the text of the bytes left, is the whole text.
+use mathlib.Core.Path.{_≡_, refl, _∙_}
+use mathlib.Core.List.{_++_}
+use Prim.Native.Nat.{_+_, _*_, _-_, _≤_, _<_}
+use native.Mathlib.Omega.{arith}
+use lib.ListN.{length, take, drop, set, length-set}
+use Rattle.answers.specs.Texts.{hexText}
+use Rattle.answers.proofs.Laws.Texts.{hex-next, hex-end}
+use borrow.Author.Needs.{needs}
+use Rattle.answers.proofs.hex.hex_text.Statement.{statement}
+use Rattle.answers.proofs.hex.hex_text.Tie as tie
+
+abbrev Inv-loop : tie.InvT-loop
+Inv-loop bytes out₀ i₀ out i = (i ≤ length bytes) × (length out ≡ length out₀) × (hexText bytes ≡ take (2 * i) out ++ hexText (drop i bytes))
+
+abbrev μ-loop : tie.MeasureT-loop
+μ-loop bytes out₀ i₀ out i = length bytes - i
+
+loop-holds : tie.Need-loop-holds Inv-loop μ-loop
+loop-holds c = (search needs, refl, refl)
+
+shared-slice-read-digit : tie.Need-shared-slice-read-digit Inv-loop μ-loop
+shared-slice-read-digit c = search needs
+
+digit-requires : tie.Need-digit-requires Inv-loop μ-loop
+digit-requires c κs = omega (arith, c .shared-slice-known2 .given (c .before .before .loop .i))
+
+mul-out : tie.Need-mul-out Inv-loop μ-loop
+mul-out c = search needs
+
+slice-write-out : tie.Need-slice-write-out Inv-loop μ-loop
+slice-write-out c = search needs
+
+shared-slice-read-digit-2 : tie.Need-shared-slice-read-digit-2 Inv-loop μ-loop
+shared-slice-read-digit-2 c = search needs
+
+digit-requires-2 : tie.Need-digit-requires-2 Inv-loop μ-loop
+digit-requires-2 c κs = search needs
+
+mul-out-2 : tie.Need-mul-out-2 Inv-loop μ-loop
+mul-out-2 c = search needs
+
+add-out : tie.Need-add-out Inv-loop μ-loop
+add-out c = search needs
+
+slice-write-out-2 : tie.Need-slice-write-out-2 Inv-loop μ-loop
+slice-write-out-2 c =
+    let at-loop = c .before .before .before .before .before in
+    rw length-set (omega (arith, at-loop .before .before .before .pre, at-loop .loop .inv .1, c .before .before .before .before .loop-test .taken))
+
+add-i : tie.Need-add-i Inv-loop μ-loop
+add-i c = search needs
+
+loop-less : tie.Need-loop-less Inv-loop μ-loop
+loop-less c = search needs
+
+loop-again : tie.Need-loop-again Inv-loop μ-loop
+loop-again c =
+    let first = c .before .before in
+    let at-loop = first .before .before .before in
+    let start = at-loop .before .before .before in
+    let bytes = start .args .bytes .now in
+    let i = at-loop .loop .i in
+    let inside : i < length bytes = first .before .before .loop-test .taken in
+    let room : 2 * i + 1 < length (at-loop .loop .out) = omega (arith, start .pre, at-loop .loop .inv .1) in (
+      search needs,
+      length-set (set (at-loop .loop .out) _ _) _ _ ∙ length-set (at-loop .loop .out) _ _ ∙ at-loop .loop .inv .1,
+      rw (first .digit .ensures, c .digit2 .ensures) (hex-next bytes (hexText bytes) (at-loop .loop .out) i inside room (at-loop .loop .inv .2)),
+    )
+
+mul-result : tie.Need-mul-result Inv-loop μ-loop
+mul-result c = search needs
+
+same-length : tie.Need-same-length Inv-loop μ-loop
+same-length c = search needs
+
+returns : tie.Need-returns Inv-loop μ-loop
+returns c =
+    let at-loop = c .before in
+    let start = at-loop .before .before .before in
+    record {
+      room = omega (arith, at-loop .loop .inv, start .pre);
+      is = hex-end (start .args .bytes .now) _ _ (at-loop .loop .i) (omega (arith, c .loop-test .left)) (at-loop .loop .inv .2);
+    }
+
+pub hex-text-spec : {M : Type 1} → statement M
+hex-text-spec =
+    tie.close
+    (tie.spec
+    Inv-loop
+    μ-loop
+    loop-holds
+    shared-slice-read-digit
+    digit-requires
+    mul-out
+    slice-write-out
+    shared-slice-read-digit-2
+    digit-requires-2
+    mul-out-2
+    add-out
+    slice-write-out-2
+    add-i
+    loop-less
+    loop-again
+    mul-result
+    same-length
+    returns)

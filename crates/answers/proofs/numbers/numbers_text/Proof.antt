@@ -1,0 +1,91 @@
+-- `answers::numbers::numbers_text` meets its contract: what is made, and the text of the numbers left, is the whole text.
+use mathlib.Core.Path.{_≡_, refl, _∙_}
+use mathlib.Core.List.{_++_}
+use Prim.Native.Nat.{_+_, _*_, _-_, _≤_, _<_}
+use native.Mathlib.Omega.{arith}
+use lib.ListN.{length, take, drop, length-set}
+use Rattle.answers.specs.Texts.{numbersText}
+use Rattle.answers.proofs.Laws.Texts.{numbers-next, numbers-end}
+use borrow.Author.Needs.{needs}
+use Rattle.answers.proofs.numbers.numbers_text.Statement.{statement}
+use Rattle.answers.proofs.numbers.numbers_text.Tie as tie
+
+abbrev Inv-loop : tie.InvT-loop
+Inv-loop numbers out₀ at₀ i₀ out at i = (i ≤ length numbers) × (at ≤ 21 * i) × (length out ≡ length out₀) × (numbersText numbers ≡ take at out ++ numbersText (drop i numbers))
+
+abbrev μ-loop : tie.MeasureT-loop
+μ-loop numbers out₀ at₀ i₀ out at i = length numbers - i
+
+loop-holds : tie.Need-loop-holds Inv-loop μ-loop
+loop-holds c = (search needs, search needs, refl, refl)
+
+slice-write-out : tie.Need-slice-write-out Inv-loop μ-loop
+slice-write-out c = search needs
+
+mul-put-number : tie.Need-mul-put-number Inv-loop μ-loop
+mul-put-number c = search needs
+
+shared-slice-read-put-number : tie.Need-shared-slice-read-put-number Inv-loop μ-loop
+shared-slice-read-put-number c = search needs
+
+cast-put-number : tie.Need-cast-put-number Inv-loop μ-loop
+cast-put-number c = omega (arith, c .shared-slice-known2 .given (c .before .before .loop .i))
+
+add-put-number : tie.Need-add-put-number Inv-loop μ-loop
+add-put-number c = search needs
+
+put-number-requires : tie.Need-put-number-requires Inv-loop μ-loop
+put-number-requires c κs =
+    let at-loop = c .before .before .before in
+    rw length-set (omega (arith, at-loop .before .before .before .pre, at-loop .loop .inv, c .before .before .loop-test .taken))
+
+add-i : tie.Need-add-i Inv-loop μ-loop
+add-i c = search needs
+
+loop-less : tie.Need-loop-less Inv-loop μ-loop
+loop-less c = search needs
+
+loop-again : tie.Need-loop-again Inv-loop μ-loop
+loop-again c =
+    let made = c .before .before in
+    let inside = made .before .before .before in
+    let at-loop = inside .before in
+    let start = at-loop .before .before .before in
+    let numbers = start .args .numbers .now in
+    let room : at-loop .loop .at < length (at-loop .loop .out) = omega (arith, start .pre, at-loop .loop .inv, inside .loop-test .taken) in (
+      search needs,
+      omega (arith, made .put-number .ensures .1, at-loop .loop .inv .1),
+      made .put-number .kept .1 .0 ∙ length-set (at-loop .loop .out) _ _ ∙ at-loop .loop .inv .2,
+      numbers-next numbers (numbersText numbers) (at-loop .loop .out) (made .put-number .last .1 .0) (at-loop .loop .at) (at-loop .loop .i) (made .put-number .result) (inside .loop-test .taken) room (at-loop .loop .inv .3) (made .put-number .ensures .2),
+    )
+
+same-length : tie.Need-same-length Inv-loop μ-loop
+same-length c = search needs
+
+returns : tie.Need-returns Inv-loop μ-loop
+returns c =
+    let at-loop = c .before in
+    let start = at-loop .before .before .before in
+    record {
+      room = omega (arith, at-loop .loop .inv, start .pre);
+      is = numbers-end (start .args .numbers .now) _ _ (at-loop .loop .i) (omega (arith, c .loop-test .left)) (at-loop .loop .inv .3);
+    }
+
+pub numbers-text-spec : {M : Type 1} → statement M
+numbers-text-spec =
+    tie.close
+    (tie.spec
+    Inv-loop
+    μ-loop
+    loop-holds
+    slice-write-out
+    mul-put-number
+    shared-slice-read-put-number
+    cast-put-number
+    add-put-number
+    put-number-requires
+    add-i
+    loop-less
+    loop-again
+    same-length
+    returns)

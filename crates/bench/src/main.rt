@@ -1,0 +1,131 @@
+// The bench console: commands from standard input, one a line, each answered with one line on standard output.
+mod answer;
+mod files;
+mod input;
+mod kept;
+mod obey;
+mod part;
+mod write;
+
+use input::Place;
+use input::Step;
+use input::next_step;
+use kept::Held;
+use obey::obey;
+use write::write_plain;
+ghost use mathlib.Core.Path.{_≡_};
+ghost use Prim.Native.Nat.{_≤_};
+ghost use lib.ListN.{length};
+ghost use Rattle.bench.specs.Kept.{Within, Arrays, mostRow, mostBook};
+ghost use Rattle.bench.specs.Input.{Inside, roomy};
+
+// Room for what is read: a line, and what came with it.
+fn blank_input() -> [u8; 262144]
+    ensures { λ r. ⌜ 262144 ≡ length r ⌝ }
+{
+    [0u8; 262144]
+}
+
+// Room for a row.
+fn blank_row() -> [u8; 8192]
+    ensures { λ r. ⌜ 8192 ≡ length r ⌝ }
+{
+    [0u8; 8192]
+}
+
+// Room for a book.
+fn blank_book() -> [u32; 16384]
+    ensures { λ r. ⌜ 16384 ≡ length r ⌝ }
+{
+    [0u32; 16384]
+}
+
+// Where the console stands between two steps; it is not open at the end of the input.
+struct State {
+    at: Place,
+    held: Held,
+    open: bool,
+}
+
+// Takes one step: answers a line, or reads on.
+fn turn(
+    buf: &mut [u8],
+    img: &mut [u8],
+    good: &mut [u8],
+    faulty: &mut [u8],
+    book: &mut [u32],
+    at: Place,
+    held: Held,
+) -> State
+    requires { ⌜ (length (now buf) ≡ roomy) × Arrays (now img) (now good) (now faulty) (now book) × Inside roomy at × Within held ⌝ }
+    ensures { λ r. ⌜ Inside roomy (r .at) × Within (r .held) ⌝ }
+{
+    match next_step(buf, at) {
+        Step::Line { from, to, next } => State {
+            at: next,
+            held: obey(&buf[from..to], img, good, faulty, book, held),
+            open: true,
+        },
+        Step::Long(next) => {
+            write_plain(b"? line too long\n");
+            State {
+                at: next,
+                held,
+                open: true,
+            }
+        }
+        Step::More(next) => State {
+            at: next,
+            held,
+            open: true,
+        },
+        Step::Last { from, to } => {
+            if from < to {
+                obey(&buf[from..to], img, good, faulty, book, held);
+            }
+            State {
+                at,
+                held,
+                open: false,
+            }
+        }
+    }
+}
+
+// Takes steps until the end of the input.
+fn talk(buf: &mut [u8], img: &mut [u8], good: &mut [u8], faulty: &mut [u8], book: &mut [u32])
+    requires { ⌜ (length (now buf) ≡ roomy) × Arrays (now img) (now good) (now faulty) (now book) ⌝ }
+{
+    let mut at = Place {
+        start: 0,
+        seen: 0,
+        end: 0,
+        skips: false,
+    };
+    let mut held = Held {
+        image: 0,
+        good: 0,
+        faulty: 0,
+        book: 0,
+    };
+    let mut turns = u64::MAX;
+    while 0 < turns {
+        let next = turn(buf, img, good, faulty, book, at, held);
+        if !next.open {
+            return;
+        }
+        at = next.at;
+        held = next.held;
+        turns -= 1;
+    }
+}
+
+// The console, with nothing lent yet.
+fn main() {
+    let mut buf = blank_input();
+    let mut img = io::large_buffer();
+    let mut good = blank_row();
+    let mut faulty = blank_row();
+    let mut book = blank_book();
+    talk(&mut buf, &mut img, &mut good, &mut faulty, &mut book);
+}

@@ -1,0 +1,88 @@
+// Answers on standard output. A long one is written in pieces.
+use answers::calls::check_answer;
+use answers::hex::hex_text;
+use answers::numbers::numbers_text;
+use libc::STDOUT_FILENO;
+ghost use mathlib.Core.Path.{_≡_};
+ghost use Prim.Native.Nat.{_-_, _≤_, _<_};
+ghost use lib.ListN.{length};
+
+// Bytes and numbers that are made into one piece.
+const MOST_BYTES: usize = 2048;
+
+const MOST_NUMBERS: usize = 128;
+
+// Room for a line.
+pub fn blank_line() -> [u8; 96]
+    ensures { λ r. ⌜ 96 ≡ length r ⌝ }
+{
+    [0u8; 96]
+}
+
+// Writes bytes as they stand.
+pub fn write_plain(bytes: &[u8]) {
+    io::write_all(STDOUT_FILENO, bytes);
+}
+
+// Writes the first n bytes of a buffer.
+pub fn write_out(out: &[u8], n: usize)
+    requires { ⌜ n ≤ length (now out) ⌝ }
+{
+    io::write_all(STDOUT_FILENO, &out[..n]);
+}
+
+// Writes Check's answer.
+pub fn write_check(img: &[u8]) {
+    let mut out = blank_line();
+    let n = check_answer(img, &mut out);
+    write_out(&out, n);
+}
+
+// Where the piece of at most size that begins at a place ends.
+fn piece_end(at: usize, size: usize, all: usize) -> usize
+    requires { ⌜ (at < all) × (0 < size) ⌝ }
+    ensures { λ r. ⌜ (at < r) × (r ≤ all) × (r - at ≤ size) ⌝ }
+{
+    if all - at <= size { all } else { at + size }
+}
+
+// Writes a word, a space and bytes as HEX, - for none.
+pub fn write_hex(word: &[u8], bytes: &[u8]) {
+    write_plain(word);
+    if bytes.len() == 0 {
+        write_plain(b"-");
+    }
+    write_digits(bytes);
+    write_plain(b"\n");
+}
+
+// Writes the digits of bytes.
+fn write_digits(bytes: &[u8]) {
+    let mut out = io::buffer();
+    let mut at = 0;
+    while at < bytes.len() {
+        let end = piece_end(at, MOST_BYTES, bytes.len());
+        let n = hex_text(&bytes[at..end], &mut out);
+        write_out(&out, n);
+        at = end;
+    }
+}
+
+// Writes the word entries, and the numbers of a book, each behind a space.
+pub fn write_entries(book: &[u32]) {
+    write_plain(b"entries");
+    write_numbers(book);
+    write_plain(b"\n");
+}
+
+// Writes numbers, each behind a space.
+fn write_numbers(numbers: &[u32]) {
+    let mut out = io::buffer();
+    let mut at = 0;
+    while at < numbers.len() {
+        let end = piece_end(at, MOST_NUMBERS, numbers.len());
+        let n = numbers_text(&numbers[at..end], &mut out);
+        write_out(&out, n);
+        at = end;
+    }
+}
