@@ -1,0 +1,272 @@
+#!/usr/bin/env python3
+"""The console `bench` against the independent program: the same scripts through both, every answer compared.
+
+    tests/compare.py                                  60,000 commands, as the gate runs it
+    tests/compare.py --seed 7 --commands 2000000      millions of commands, from another seed
+
+It prints how often each answer and each refusal of each command arose, and fails where one that the command can give arose
+fewer than 20 times. Its last line is 'N passed, M failed', where a part of a script counts one.
+"""
+import argparse
+import collections
+import concurrent.futures
+import select
+import shutil
+import subprocess
+import sys
+import tempfile
+from pathlib import Path
+
+import scripts
+from shapes import ROOT, make
+
+ORACLE = [str(ROOT / "tests/oracle/target/release/oracle"), "console"]
+PRODUCT = [str(ROOT / "bench"), "bench"]
+BUILD = ["cargo", "build", "--release", "--offline", "--quiet", "--manifest-path", str(ROOT / "tests/oracle/Cargo.toml")]
+FAILURES = ROOT / "target/compare"
+# commands in one run of a program, how often each answer must arise at least, and from how many commands on that is asked
+SCRIPT, ENOUGH, ENOUGH_FROM = 5_000, 20, 20_000
+TIMEOUT = 900
+PAIRED = (b"lend", b"put", b"show")
+COMMANDS = "load open save image lend put check rows judge find book alter refresh five show entries help".split()
+IMAGE = [str(n) for n in range(1, 6)]
+# what each command can answer: forms of an accepted answer, then the refusals of its call, then '?'
+CAN_ANSWER = {
+    "load": ["board", *IMAGE, "?"],
+    "open": ["board", *IMAGE, "? cannot read"],
+    "save": ["saved", "?"],
+    "image": ["image", "image -", "?"],
+    "lend rows": ["lent", "?"],
+    "lend book": ["lent", "?"],
+    "put good": ["lent", "?"],
+    "put faulty": ["lent", "?"],
+    "put entry": ["lent", "?"],
+    "check": ["board", *IMAGE, "?"],
+    "rows": ["filled", *IMAGE, "6", "7", "8", "9", "?"],
+    "judge": ["yes", "no", *IMAGE, "6", "7", "8", "?"],
+    "find": ["pattern", "none", *IMAGE, "6", "7", "?"],
+    "book": ["found", *IMAGE, "9", "?"],
+    "alter": ["found", *IMAGE, "6", "9", "10", "?"],
+    "refresh": ["filled", *IMAGE, "6", "8", "9", "11", "?"],
+    "five": ["drives", "drives 0", *IMAGE, "6", "7", "8", "9", "?"],
+    "show good": ["row", "row -", "?"],
+    "show faulty": ["row", "row -", "?"],
+    "entries": ["entries", "?"],
+    "help": ["help", "?"],
+    "no command": ["?", "? line too long"],
+    "a bad record": [f"field {n}" for n in range(6)],
+}
+FIXED = (b"? line too long", b"? cannot read")
+
+
+def command_name(command, answer):
+    """The command's name in the table; the first two words where the second belongs to it."""
+    if answer == b"? line too long":
+        return "no command"
+    words = command[:40].split(b" ")
+    name = b" ".join(words[:2] if words[0] in PAIRED else words[:1]).decode("latin-1")
+    return name if name in CAN_ANSWER and name != "a bad record" else "no command"
+
+
+def form(command, answer):
+    """The form of an answer: a refusal's number, '?', or its first word, with its second where that tells forms apart."""
+    words = answer[:40].decode("latin-1").split(" ")
+    if words[0] == "refused":
+        return words[1]
+    if words[0] == "?":
+        return answer.decode() if answer in FIXED else "?"
+    if words[0].isdigit():
+        return "pattern"
+    if command == b"help":
+        return "help"
+    return " ".join(words[:2]) if words[1:] in (["-"], ["0"]) else words[0]
+
+
+def readable(command):
+    """Whether the words of a command are separated as they should be."""
+    return b"" not in command.split(b" ") and not set(command) & set(b"\t\r")
+
+
+def agree(command, expected, found):
+    """Whether two answers are the same; reasons after '?' may differ unless the console's page settles them."""
+    if command == b"help":
+        return all(name.encode() in answer for name in COMMANDS for answer in (expected, found))
+    if expected.startswith(b"? ") and found.startswith(b"? ") and len(found) > 2:
+        settled = {expected, found} & set(FIXED) and readable(command)
+        return not settled or expected == found
+    return expected == found
+
+
+def scratch(folder):
+    """A folder with the files that scripts open."""
+    folder.mkdir()
+    (folder / "folder").mkdir()
+    for name, data in (("good.img", make.S), ("empty", b""), ("full", bytes(65_536)), ("large", bytes(65_537)), ("huge", bytes(300_000))):
+        (folder / name).write_bytes(data)
+    return folder
+
+
+def answers(program, script, folder, timeout=TIMEOUT, pieces=False):
+    """What a program answers to a script in a folder, line by line, and what else went wrong; the script comes whole or in pieces."""
+    with open(script, "rb") as given, open(folder.with_suffix(".out"), "wb") as out:
+        way = {"input": given.read()} if pieces else {"stdin": given}
+        try:
+            status = subprocess.run(program, stdout=out, cwd=folder, timeout=timeout, **way).returncode
+            trouble = f"exit status {status}" if status else None
+        except subprocess.TimeoutExpired:
+            trouble = f"no end within {timeout} s"
+    lines = folder.with_suffix(".out").read_bytes().split(b"\n")
+    return lines[:-1], trouble or (None if lines[-1] == b"" else "an answer without its line feed")
+
+
+def left_behind(folder):
+    """The files in a folder and their bytes."""
+    return {p.relative_to(folder): p.read_bytes() if p.is_file() else None for p in folder.rglob("*")}
+
+
+def cut(text):
+    """Text short enough for a message."""
+    return repr(text[:90])[2:-1] + (f" .. ({len(text)} bytes)" if len(text) > 90 else "")
+
+
+def first_difference(script, part, expected, found):
+    """The first command of a part whose answers differ, or none."""
+    start, end = script.parts[part][0], [*script.parts, (len(script.commands), "")][part + 1][0]
+    for k in range(start, end):
+        if k >= len(found) or not agree(script.commands[k], expected[k], found[k]):
+            return k
+    return None
+
+
+def described(seed, number, script, part, k, expected, found):
+    """The words for a difference, and the part up to it, which shows it alone."""
+    start, name = script.parts[part]
+    words = (f"FAILED: seed {seed}, script {number}, command {k} (part {part}, {name})\n"
+             f"  command:     {cut(script.commands[k])}\n  independent: {cut(expected[k])}\n"
+             f"  product:     {cut(found[k]) if k < len(found) else 'no answer'}")
+    return words, b"\n".join(script.commands[start:k + 1]) + b"\n"
+
+
+def held_against(seed, number, commands, product, oracle, timeout=TIMEOUT):
+    """One script through both programs: parts that agree, words for each that does not, and the count of each form."""
+    script = scripts.script(f"{seed}/{number}", commands)
+    with tempfile.TemporaryDirectory() as room:
+        path, ours, theirs = Path(room) / "script", scratch(Path(room) / "oracle"), scratch(Path(room) / "product")
+        path.write_bytes(b"\n".join(script.commands) + b"\n")
+        expected, trouble = answers(oracle, path, ours)
+        if trouble or len(expected) != len(script.commands):
+            return 0, [(f"FAILED: script {number}: the independent program: {trouble or len(expected)}", b"")], collections.Counter()
+        found, trouble = answers(product, path, theirs, timeout, pieces=number % 2 == 1)
+        failures = [(f"FAILED: script {number}: the product: {trouble}", b"")] if trouble else []
+        if len(found) > len(expected) or left_behind(ours) != left_behind(theirs):
+            failures.append((f"FAILED: seed {seed}, script {number}: answers too many, or other files left behind", b""))
+    differences = [(part, first_difference(script, part, expected, found)) for part in range(len(script.parts))]
+    failures += [described(seed, number, script, part, k, expected, found) for part, k in differences if k is not None]
+    return len(script.parts) - sum(k is not None for _, k in differences), failures, counted(script.commands, expected)
+
+
+def counted(commands, answered):
+    """How often each form of answer of each command arose."""
+    counts = collections.Counter()
+    for command, answer in zip(commands, answered):
+        counts[command_name(command, answer), form(command, answer)] += 1
+        if answer.startswith(b"refused 4 at "):
+            counts["a bad record", "field " + answer.decode().rsplit(".", 1)[1]] += 1
+    return counts
+
+
+def table(counts):
+    """The table of counts: accepted answers by form, each refusal, and '?'."""
+    numbers = [str(n) for n in range(1, 12)]
+    rows = [["command", *numbers, "?", "accepted"]]
+    for name in CAN_ANSWER:
+        forms = {f: n for (c, f), n in sorted(counts.items()) if c == name}
+        accepted = "  ".join(f"{f}: {n}" for f, n in forms.items() if f not in numbers and f != "?")
+        rows.append([name, *(str(forms.get(f, "")) for f in [*numbers, "?"]), accepted])
+    return "\n".join(f"{r[0]:<13}" + "".join(f"{cell:>6}" for cell in r[1:13]) + "   " + r[13] for r in rows)
+
+
+def too_few(counts):
+    """The answers that arose too seldom."""
+    return [f"{name}: {f}" for name, forms in CAN_ANSWER.items() for f in forms if counts[name, f] < ENOUGH]
+
+
+def answers_at_once(product):
+    """Whether a program answers each line as soon as it is there, though the line comes in two pieces."""
+    program = subprocess.Popen(product, stdin=subprocess.PIPE, stdout=subprocess.PIPE, bufsize=0)
+    good = True
+    for first, second, answer in ((b"che", b"ck\n", b"refused 1\n"), (b"load " + make.T.hex().encode(), b"\n", b"board 3 lines"),
+                                  (b"\n", b"find 1/0\n", b"?"), (b"", b"image\nentr", b"0\n"), (b"ies", b"\n", b"image 00")):
+        program.stdin.write(first)
+        program.stdin.write(second)
+        good = good and bool(select.select([program.stdout], [], [], 60)[0]) and program.stdout.readline().startswith(answer)
+    program.stdin.close()
+    rest = program.stdout.read()
+    return good and program.wait() == 0 and rest == b"entries 99 99 99 99 99 99\n"
+
+
+# inputs whose ends matter
+ENDINGS = (b"", b"\n", b"check", b"check\n", b"check\n\n", b"\n\nhelp", b" ", b"x" * 199_999, b"x" * 200_000, b"x" * 200_000 + b"\n",
+           b"x" * 199_999 + b"\ncheck", b"x" * 500_000 + b"\ncheck\n", b"x" * 1_000_000)
+
+
+def ends_alike(product, oracle):
+    """How many of those inputs get as many answers, and the same ones, from both programs."""
+    def lines(program, data):
+        return subprocess.run(program, input=data, stdout=subprocess.PIPE, timeout=TIMEOUT).stdout.split(b"\n")
+    return sum(same_lines(lines(oracle, data), lines(product, data), data.split(b"\n")) for data in ENDINGS)
+
+
+def same_lines(expected, found, commands):
+    """Whether two outputs have the same number of lines, which agree one by one."""
+    return len(expected) == len(found) and all(map(agree, commands + [b""], expected, found))
+
+
+def compare(seed, commands, product, oracle=ORACLE, jobs=2):
+    """All scripts, two at a time; gives parts passed, words for what failed, and the counts."""
+    number = max(jobs, -(-commands // SCRIPT))
+    passed, failures, counts = 0, [], collections.Counter()
+    with concurrent.futures.ProcessPoolExecutor(jobs) as pool:
+        work = [pool.submit(held_against, seed, i, -(-commands // number), product, oracle) for i in range(number)]
+        for done in concurrent.futures.as_completed(work):
+            good, bad, seen = done.result()
+            passed, failures, counts = passed + good, failures + bad, counts + seen
+    return passed, failures, counts
+
+
+def tell(failures):
+    """Prints the first failures, and keeps for each the commands that show it alone."""
+    shutil.rmtree(FAILURES, ignore_errors=True)
+    for i, (words, commands) in enumerate(failures[:12]):
+        print(words)
+        if commands:
+            FAILURES.mkdir(parents=True, exist_ok=True)
+            (FAILURES / f"{i}.txt").write_bytes(commands)
+            print(f"  alone:       {FAILURES.relative_to(ROOT)}/{i}.txt")
+
+
+def main():
+    """The comparison, its table and its last line."""
+    words = argparse.ArgumentParser(description=__doc__, formatter_class=argparse.RawDescriptionHelpFormatter)
+    words.add_argument("--seed", type=int, default=1)
+    words.add_argument("--commands", type=int, default=60_000)
+    words.add_argument("--product", nargs="+", default=PRODUCT, help="another program to hold against the independent one")
+    asked = words.parse_args()
+    asked.product[0] = str(Path(asked.product[0]).resolve())
+    subprocess.run(BUILD, check=True)
+    at_once = answers_at_once(asked.product)
+    passed, failures, counts = compare(asked.seed, asked.commands, asked.product)
+    endings = ends_alike(asked.product, ORACLE)
+    failures += [("FAILED: an input's end is read otherwise", b"")] * (len(ENDINGS) - endings)
+    failures += [] if at_once else [("FAILED: an answer did not come as soon as its line", b"")]
+    seldom = too_few(counts) if asked.commands >= ENOUGH_FROM else []
+    failures += [(f"FAILED: arose fewer than {ENOUGH} times: {', '.join(seldom)}", b"")] if seldom else []
+    print(table(counts))
+    tell(failures)
+    print(f"seed {asked.seed}, {sum(n for (c, _), n in counts.items() if c != 'a bad record')} commands")
+    print(f"{passed + endings + at_once + (not seldom)} passed, {len(failures)} failed")
+    sys.exit(1 if failures else 0)
+
+
+if __name__ == "__main__":
+    main()

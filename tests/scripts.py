@@ -1,0 +1,550 @@
+"""Command scripts for the console, made from a seed.
+
+A script is a run of parts. Each part but the first begins by loading an image, so that it stands on its own. After every call that
+lends a buffer the script asks for what is left in it.
+"""
+import functools
+import itertools
+import random
+
+import shapes
+from shapes import make
+
+TOP = 2**64 - 1
+# the credit in gate values that each command earns for searches, so that a script's time grows with its length alone
+CREDIT = 15_000
+LOOKS = (b"image", b"entries", b"show good 0", b"show faulty 0")
+
+
+class Script:
+    """The commands so far, where each part begins, the image's board and what is lent."""
+
+    def __init__(self, seed):
+        self.rng = random.Random(seed)
+        self.commands, self.parts, self.credit = [], [], 200_000
+        self.board = None
+
+    def say(self, *words):
+        """Adds a command; numbers and bytes become words."""
+        self.commands.append(b" ".join(self.word(w) for w in words))
+        self.credit += CREDIT
+
+    def word(self, value):
+        """A word: text as it is, a number with zeros before it at times, bytes as hex in either case or in both."""
+        if isinstance(value, str):
+            return value.encode()
+        if isinstance(value, int):
+            return b"%s%d" % (b"0" * self.rng.choice((1, 3, 30, 2000)) if self.rng.random() < 0.02 else b"", value)
+        text, case = value.hex() or "-", self.rng.random()
+        return (text if case < 0.6 else text.upper() if case < 0.9 else text.upper().replace("A", "a").replace("C", "c")).encode()
+
+    def fault(self, line, stuck):
+        """The word of a fault."""
+        return (self.word(line) + b"/" + self.word(stuck)).decode()
+
+    def afford(self, cost):
+        """Whether a search of this cost may be asked for now; it is then paid."""
+        if cost > self.credit:
+            return False
+        self.credit -= cost
+        return True
+
+    def load(self, board):
+        """Loads a board; rows and a book of the right length are then lent."""
+        self.board = board
+        self.say("load", board.image())
+
+    def look(self, *what):
+        """Asks for what is left in the lent buffers."""
+        for one in what:
+            self.say(one)
+
+    def look_rows(self):
+        """Asks for both rows."""
+        self.look("show good 0", "show faulty 0")
+
+    # the calls, each with a look at what was lent
+
+    def rows(self, pattern, line, stuck):
+        """Rows, and both rows after it."""
+        self.say("rows", pattern, self.fault(line, stuck))
+        self.look_rows()
+
+    def judge(self, pattern, line, stuck):
+        """Judge, which lends nothing."""
+        self.say("judge", pattern, self.fault(line, stuck))
+
+    def find(self, line, stuck):
+        """Find, where its time is at hand."""
+        if self.afford(self.board.cost()):
+            self.say("find", self.fault(line, stuck))
+
+    def book(self):
+        """Book and the entries after it, where its time is at hand."""
+        if self.afford(self.board.cost(2 * self.board.lines)):
+            self.say("book")
+            self.look("entries")
+
+    def alter(self, line, record):
+        """Alter, then entries and image, where its time is at hand."""
+        if self.afford(self.board.cost(2 * self.board.lines)):
+            self.say("alter", line, record)
+            self.look("entries", "image")
+
+    def refresh(self, line, pattern):
+        """Refresh, and the good row after it."""
+        self.say("refresh", line, pattern)
+        self.look("show good 0")
+
+    def five(self, named, values, line, stuck):
+        """Five values, and the good row after it."""
+        self.say("five", named, values, self.fault(line, stuck))
+        self.look("show good 0")
+
+    # arguments, good and bad
+
+    def line(self):
+        """A line of the board."""
+        return self.rng.randrange(self.board.lines)
+
+    def gate(self):
+        """A gate's line, or an input's where there is no gate."""
+        return self.rng.randrange(min(self.board.inputs, self.board.lines - 1), self.board.lines)
+
+    def pattern(self):
+        """A pattern of the board's inputs."""
+        most = 2**self.board.inputs - 1
+        return self.rng.choice((0, most, self.rng.randint(0, most), self.rng.randint(0, most)))
+
+    def stuck(self):
+        """0 or 1."""
+        return self.rng.randrange(2)
+
+    def bad_line(self):
+        """A line at or past the line count; some would be good were they cut to 8, 16 or 32 bits."""
+        n = self.board.lines
+        return self.rng.choice((n, n, n + 1, max(n, 256), 512, 65535, 65536, 2**32, 2**32 + 1, 2**63, 10**18, TOP))
+
+    def bad_stuck(self):
+        """A stuck value over 1; some would be good were they cut to 8 or 32 bits."""
+        return self.rng.choice((2, 2, 3, 9, 254, 255, 256, 257, 300, 2**32, 2**32 + 1, 2**63, TOP))
+
+    def bad_pattern(self):
+        """A pattern with a bit at or above the input count."""
+        high = 1 << self.board.inputs
+        return self.rng.choice((high, high, high + self.pattern(), 2**32, 2**32 + 1, 2**63, TOP, 2**24))
+
+    def partial(self):
+        """A partial pattern: which inputs are named, and values there alone."""
+        named = self.pattern()
+        return named, named & self.pattern()
+
+    def bad_partial(self):
+        """A partial pattern that is bad in one of the three ways, or in several."""
+        high, low = self.bad_pattern(), self.pattern()
+        unnamed = 1 << self.rng.randrange(self.board.inputs)
+        named = low & ~unnamed
+        return self.rng.choice(((high, 0), (high | low, low), (low, high), (high, high), (named, unnamed),
+                                (named, unnamed | named), (0, TOP), (TOP, 0), (TOP, TOP), (0, 1)))
+
+    def mixed_arguments(self, bad):
+        """Line, stuck value, pattern and partial pattern, each bad with this chance."""
+        chance = lambda good, poor: poor() if self.rng.random() < bad else good()
+        return (chance(self.line, self.bad_line), chance(self.stuck, self.bad_stuck),
+                chance(self.pattern, self.bad_pattern), chance(self.partial, self.bad_partial))
+
+
+def length_near(rng, right):
+    """A length for a lent buffer: often right, else one off, nothing, or far off."""
+    return rng.choice((right, right, right, right + 1, max(right - 1, 0), 0, 2 * right, right // 2, right + 256))
+
+
+def a_record(s, line):
+    """A record for an alteration: good there, the same as before, bad there, or of kind 0."""
+    way, board = s.rng.randrange(8), s.board
+    if way == 0 or line >= board.lines or line == 0:
+        return shapes.bad_record(s.rng, min(line, board.lines))
+    if way == 1:
+        return make.record(make.INPUT)
+    if way == 2:
+        return shapes.packed(board.records[line])
+    if way == 3:
+        return shapes.bad_record(s.rng, line)
+    return shapes.packed(shapes.good_record(s.rng, line))
+
+
+def any_call(s, bad):
+    """One call, with arguments that are bad with this chance."""
+    line, stuck, pattern, (named, values) = s.mixed_arguments(bad)
+    which = s.rng.randrange(7)
+    if which == 0:
+        s.rows(pattern, line, stuck)
+    elif which == 1:
+        s.judge(pattern, line, stuck)
+    elif which == 2:
+        s.find(line, stuck)
+    elif which == 3:
+        s.book()
+    elif which == 4:
+        s.alter(line, a_record(s, line))
+    elif which == 5:
+        s.refresh(line, pattern)
+    else:
+        s.five(named, values, line, stuck)
+
+
+# the parts
+
+def before_load(s):
+    """Commands before the first load: a script's first part."""
+    s.board = shapes.sheet(s.rng)
+    for command in ("image", "check", "entries", "show good 0", "show faulty 5", "book", "find 0/0", "rows 0 0/0", "judge 0 0/0",
+                    "refresh 0 0", "five 0 0 0/0", "alter 0 02010000000000000000", "put entry 0 1", "help"):
+        if s.rng.random() < 0.8:
+            s.say(command)
+            s.look(s.rng.choice(LOOKS).decode())
+
+
+def exhaustive(s):
+    """A small board whole: the book, each fault's find, and all patterns for some faults."""
+    s.load(s.rng.choice((shapes.small, shapes.small, shapes.late))(s.rng))
+    s.book()
+    for line in range(s.board.lines):
+        s.find(line, 0)
+        s.find(line, 1)
+    line, stuck = s.line(), s.stuck()
+    for pattern in range(min(16, 1 << s.board.inputs)):
+        s.judge(pattern, line, stuck)
+    s.rows(s.pattern(), s.line(), s.stuck())
+
+
+def every_row(s):
+    """Rows and judge at random on boards of all sizes."""
+    s.load(s.rng.choice((shapes.small, shapes.middle, shapes.middle, shapes.large))(s.rng))
+    for _ in range(6):
+        s.say("put faulty", s.rng.randbytes(length_near(s.rng, s.board.lines)))
+        s.rows(s.pattern(), s.line(), s.stuck())
+        s.judge(s.pattern(), s.line(), s.stuck())
+        s.find(s.line(), s.stuck())
+        row, from_line = s.rng.choice(("good", "faulty")), s.rng.choice((s.line(), s.bad_line()))
+        s.say("show", row, from_line)
+
+
+def largest(s):
+    """Boards of up to 512 lines and 64 outputs through the calls that search little, and at times a whole book."""
+    s.load(shapes.large(s.rng))
+    s.find(s.line(), s.stuck())
+    s.rows(s.pattern(), s.line(), s.stuck())
+    s.refresh(s.line(), s.pattern())
+    s.five(*s.partial(), s.line(), s.stuck())
+    if s.rng.random() < 0.3:
+        s.book()
+        s.alter(s.gate(), a_record(s, s.gate()))
+
+
+def many_inputs(s):
+    """Boards of up to 24 inputs: find only where an early pattern shows the fault, alter only where nothing is touched."""
+    board = shapes.wide(s.rng)
+    s.load(board)
+    for _ in range(3):
+        s.rows(s.pattern(), s.line(), s.stuck())
+        s.judge(s.rng.choice((s.pattern(), s.bad_pattern())), s.line(), s.stuck())
+        s.five(*s.rng.choice((s.partial(), s.bad_partial())), s.line(), s.stuck())
+        s.say("put good", bytes(s.stuck() for _ in range(board.lines)))
+        s.refresh(s.line(), s.rng.choice((s.pattern(), s.bad_pattern())))
+    for output in (o for o in board.outputs if o < board.inputs):
+        s.say("find", s.fault(output, 1))
+        if s.afford(2 * board.lines << output):
+            s.say("find", s.fault(output, 0))
+    last = board.lines - 1
+    s.say("put entry", s.rng.randrange(2 * board.lines), s.rng.choice((7, 2**32 - 1)))
+    s.say("alter", last, shapes.packed(shapes.good_record(s.rng, last)))
+    s.look("entries", "image")
+
+
+def refusals(s):
+    """Calls with some arguments and lent lengths bad, alone and together, so that the order of the tests shows."""
+    s.load(s.rng.choice((shapes.small, shapes.small, shapes.middle, shapes.wide))(s.rng))
+    n = s.board.lines
+    for _ in range(10):
+        if s.rng.random() < 0.4:
+            s.say("lend rows", length_near(s.rng, n), length_near(s.rng, n))
+        if s.rng.random() < 0.4:
+            s.say("lend book", length_near(s.rng, 2 * n))
+        any_call(s, s.rng.choice((0.1, 0.3, 0.6)))
+
+
+def every_refusal(s):
+    """Each refusal of each call alone, at its boundary."""
+    s.load(shapes.small(s.rng))
+    n, line, stuck, pattern = s.board.lines, s.line(), s.stuck(), s.pattern()
+    named, values = s.partial()
+    for bad in (lambda: s.rows(pattern, s.bad_line(), stuck), lambda: s.rows(pattern, line, s.bad_stuck()),
+                lambda: s.rows(s.bad_pattern(), line, stuck), lambda: s.judge(pattern, s.bad_line(), stuck),
+                lambda: s.judge(pattern, line, s.bad_stuck()), lambda: s.judge(s.bad_pattern(), line, stuck),
+                lambda: s.find(s.bad_line(), stuck), lambda: s.find(line, s.bad_stuck()),
+                lambda: s.alter(s.bad_line(), a_record(s, line)), lambda: s.alter(line, shapes.bad_record(s.rng, line)),
+                lambda: s.refresh(s.bad_line(), pattern), lambda: s.refresh(line, s.bad_pattern()),
+                lambda: s.refresh(n - 1, pattern), lambda: s.five(named, values, s.bad_line(), stuck),
+                lambda: s.five(named, values, line, s.bad_stuck()), lambda: s.five(*s.bad_partial(), line, stuck)):
+        bad()
+    s.say("lend rows", *s.rng.choice(((n + 1, n), (n, n + 1), (n - 1, n), (n, n - 1), (0, n), (n, 0))))
+    s.say("lend book", s.rng.choice((2 * n - 1, 2 * n + 1, n, 0)))
+    s.rows(pattern, line, stuck)
+    s.refresh(line, pattern)
+    s.five(named, values, line, stuck)
+    s.book()
+    s.alter(line, a_record(s, line))
+
+
+def every_call(s):
+    """All calls once on whatever image is loaded, and a look at what was lent."""
+    s.say("lend rows", s.rng.choice((s.board.lines, 1)), s.board.lines)
+    s.say("lend book", 2 * s.board.lines)
+    bad = s.rng.choice((0, 0.5))
+    line, stuck, pattern, (named, values) = s.mixed_arguments(bad)
+    s.say("check")
+    for call in (lambda: s.rows(pattern, line, stuck), lambda: s.judge(pattern, line, stuck), lambda: s.find(line, stuck),
+                 s.book, lambda: s.alter(line, a_record(s, line)), lambda: s.refresh(line, pattern),
+                 lambda: s.five(named, values, line, stuck)):
+        call()
+
+
+def bad_image(s):
+    """Images with a defect of each sort, and with several, through every call."""
+    for defect in (*shapes.DEFECTS, shapes.several_defects):
+        s.board = s.rng.choice((shapes.small, shapes.small, shapes.middle))(s.rng)
+        s.say("load", defect(s.rng, s.board))
+        s.look(*(look.decode() for look in LOOKS))
+        every_call(s)
+
+
+def bad_boards(s):
+    """Many images with a defect, one after the other."""
+    for _ in range(12):
+        s.board = s.rng.choice((shapes.small, shapes.small, shapes.middle, shapes.large))(s.rng)
+        s.say("load", s.rng.choice(shapes.DEFECTS + (shapes.several_defects,))(s.rng, s.board))
+        s.say("check")
+
+
+def damaged_image(s):
+    """Good images with a byte or a bit changed, cut or made longer; then a call."""
+    s.board = shapes.small(s.rng)
+    image = s.board.image()
+    for _ in range(6):
+        s.say("load", shapes.damaged(s.rng, image))
+        s.say("lend rows", s.board.lines, s.board.lines)
+        any_call(s, 0)
+
+
+def random_image(s):
+    """Random bytes as an image, then every call."""
+    s.board = shapes.mixed(s.rng, s.rng.randint(1, 5), 3)
+    for _ in range(4):
+        s.say("load", shapes.random_bytes(s.rng))
+    every_call(s)
+
+
+def alterations(s):
+    """A long run of alterations, accepted and refused, with wrong entries planted before."""
+    s.load(s.rng.choice((shapes.small, shapes.middle, shapes.some_islands, shapes.some_islands, shapes.late))(s.rng))
+    if s.rng.random() < 0.7:
+        s.book()
+    for _ in range(s.rng.randint(4, 20)):
+        for _ in range(s.rng.randrange(3)):
+            s.say("put entry", s.rng.randrange(2 * s.board.lines), s.rng.choice((0, 1, 99, 2**32 - 1, 2**32 - 2, s.pattern())))
+        line = s.gate() if s.rng.random() < 0.85 else s.rng.choice((s.line(), s.bad_line()))
+        if s.board.inputs <= line < s.board.lines and s.rng.random() < 0.7:
+            s.board.records[line] = shapes.good_record(s.rng, line)
+            s.alter(line, shapes.packed(s.board.records[line]))
+        else:
+            s.alter(line, a_record(s, line))
+    s.book()
+
+
+def bench_sheet(s):
+    """The alterations of T and H on the bench sheet, and S with its line 4."""
+    for image, line, record in ((make.T, 2, make.record(make.AND, 0, 1)), (make.H, 3, make.record(make.NOT, 1)),
+                                (make.S, 4, make.record(make.OR, 1, 2))):
+        s.say("load", image)
+        s.say("book")
+        s.say("put entry 0", s.rng.choice((99, 2**32 - 1)))
+        s.say("find", s.fault(line, 0))
+        s.say("find", s.fault(line, 1))
+        s.say("alter", line, record)
+        s.look("entries", "image")
+
+
+def refreshes(s):
+    """Refresh on right rows, on wrong bytes 0 and 1, and on bytes over 1 before and after the line."""
+    s.load(s.rng.choice((shapes.small, shapes.middle, shapes.middle, shapes.large))(s.rng))
+    pattern = s.pattern()
+    for _ in range(6):
+        s.say("rows", pattern, s.fault(s.line(), s.stuck()))
+        line = s.rng.choice((s.line(), s.line(), 0, s.board.lines - 1))
+        row = bytearray(s.rng.randrange(2) for _ in range(s.board.lines))
+        if s.rng.random() < 0.6:
+            at = s.rng.choice((line, line, max(line - 1, 0), s.rng.randrange(s.board.lines)))
+            row[at] = s.rng.choice((2, 3, 9, 128, 255))
+        if s.rng.random() < 0.8:
+            s.say("put good", bytes(row))
+        s.refresh(line, s.rng.choice((pattern, s.pattern())))
+        s.say("show good", line)
+
+
+def five_values(s):
+    """Partial patterns and faults on boards with gates that meet again."""
+    s.load(s.rng.choice((shapes.small, shapes.small, shapes.middle, shapes.large))(s.rng))
+    inputs = s.board.inputs
+    for _ in range(12):
+        named = s.rng.getrandbits(inputs)
+        s.five(named, named & s.rng.getrandbits(inputs), s.line(), s.stuck())
+    s.five((1 << inputs) - 1, s.pattern(), s.line(), s.stuck())
+    s.five(0, 0, s.line(), s.stuck())
+
+
+def gate_tables(s):
+    """Every gate on every choice of pins from five lines that hold 0, 1, x, D and D-bar: the whole five-value table."""
+    pins = [chosen for count in (2, 3, 4) for chosen in itertools.product(range(5), repeat=count)]
+    gates = [(kind, (pin,)) for kind in (1, 2) for pin in range(5)] + [(kind, chosen) for kind in range(3, 9) for chosen in pins]
+    s.rng.shuffle(gates)
+    most = 512 - 5
+    for start in range(0, len(gates), most):
+        records = [shapes.INPUT] * 4 + [(make.NOT, (3,))] + gates[start:start + most]
+        s.load(shapes.Board(records, sorted(s.rng.sample(range(len(records)), 64))))
+        s.five(0b1011, 0b1010, 3, 0)
+        s.rows(s.pattern(), 3, s.stuck())
+
+
+# what is no command
+
+WORDS = ("", "-", "x", "-1", "+1", "0x10", "1.5", "1e3", "18446744073709551616", "18446744073709551625", "99999999999999999999",
+         "340282366920938463463374607431768211456", "0g", "0", "000", "00 00", "G0", "/", "/0", "4/", "4//0", "4/0/1", "4.0/1",
+         "4/0.1", " 4/0", "4/+0", "4/-0", "4/18446744073709551616", "99999999999999999999/0", "\t", "4\t", "\r", "4/0\r", "all", "book")
+FILE_WORDS = ("open", "save")
+
+
+def valid_commands(s):
+    """A command of each sort, most of them good for the board."""
+    line, fault = s.line(), s.fault(s.line(), s.stuck())
+    return ["load " + s.board.image().hex(), "load -", "image", "check", "entries", "help", "book", "lend rows 3 4", "lend book 6",
+            "put good 0001", "put faulty -", f"put entry {line} 5", f"rows {s.pattern()} {fault}", f"judge {s.pattern()} {fault}",
+            f"find {fault}", f"alter {line} {shapes.packed(shapes.gate(s.rng, 0, line + 1)).hex()}", f"refresh {line} {s.pattern()}",
+            f"five 1 0 {fault}", f"show good {line}", f"show faulty {line}", "open good.img", "save own.img"]
+
+
+def respaced(rng, text):
+    """The command with a space too many, a tab or a carriage return, or in capitals."""
+    at = rng.choice([i for i, c in enumerate(text) if c == " "] + [0, len(text)])
+    rest = text[at + 1:] if text[at:at + 1] == " " else text[at:]
+    return rng.choice((text[:at] + " " + text[at:], text + " ", " " + text, text + "\r", text[:at] + "\t" + rest,
+                       text.upper(), text.capitalize(), text[:at] + rest, text.replace(" ", ",", 1)))
+
+
+def malformed_command(rng, text):
+    """The command with a word missing, added or unreadable, or with a strange byte in it."""
+    words, way = text.split(" "), rng.randrange(7)
+    if way < 2:
+        return respaced(rng, text).encode()
+    if way == 2 and len(words) > 1:
+        return " ".join(words[:-1]).encode()
+    if way in (3, 4) and len(words) > 1:
+        words[rng.randrange(1, len(words))] = rng.choice([w for w in WORDS if not w.startswith("/") or words[0] not in FILE_WORDS])
+        return " ".join(words).encode()
+    if way == 5 and words[0] not in FILE_WORDS:
+        data = bytearray(text.encode())
+        data[rng.randrange(len(data))] = rng.choice((0, 11, 12, 127, 128, 195, 255, 58, 47, 64, 96, 103, 71))
+        return bytes(data)
+    return (text + " " + rng.choice(WORDS + ("0", "1"))).encode()
+
+
+def no_command(rng):
+    """A line without a command's name."""
+    return rng.choice((b"", b" ", b"  ", rng.randbytes(rng.randint(1, 20)).replace(b"\n", b"?"), b"nothing", b"checks", b"chec"))
+
+
+def malformed(s):
+    """Lines that are no command, each with a look at something that must not have changed."""
+    s.load(shapes.small(s.rng))
+    s.rows(s.pattern(), s.line(), s.stuck())
+    for text in valid_commands(s):
+        s.commands.append(malformed_command(s.rng, text))
+        s.look(s.rng.choice(LOOKS).decode())
+    for _ in range(5):
+        s.commands.append(no_command(s.rng))
+        s.look(s.rng.choice(LOOKS).decode())
+    s.say("help")
+
+
+def lengths(s):
+    """The console's own limits at the boundary: lent lengths, bytes to put and entries."""
+    s.load(shapes.small(s.rng))
+    n = s.board.lines
+    for place in (0, 2 * n - 1, 2 * n, s.rng.choice((2**32, 2**32 + 1, TOP))):
+        s.say("put entry", place, s.rng.choice((5, 2**32 - 1)))
+        s.say("put entry", place, s.rng.choice((2**32, 2**32 + 5, TOP)))
+    s.look("entries")
+    s.say("lend rows", *s.rng.choice(((8192, 8192), (8193, 1), (1, 8193), (0, 0), (TOP, 1), (2**32, 2**32), (7, 8193))))
+    s.say("put", s.rng.choice(("good", "faulty")), bytes(s.rng.choice((8191, 8192, 8193))))
+    s.look("show good 8190", "show faulty 1")
+    s.say("lend book", s.rng.choice((16384, 16385, 2**32, TOP, 0)))
+    s.say("put entry", s.rng.choice((16383, 16384, 0)), 5)
+    s.look("entries")
+    any_call(s, 0)
+
+
+def long_lines(s):
+    """Lines around 200,000 bytes, and images up to 65,536 bytes and over."""
+    s.load(shapes.small(s.rng))
+    for length in (199_999, 200_000, s.rng.choice((199_998, 200_001, 262_144, 400_001))):
+        start = s.rng.choice((b"load ", b"check ", b"", b"put good ", b"show good "))
+        s.commands.append(start + s.rng.choice((b"0", b" ", b"\xff")) * (length - len(start)))
+        s.look("check", s.rng.choice(LOOKS).decode())
+    if s.rng.random() < 0.4:
+        image = s.board.image()
+        s.say("load", bytes(s.rng.choice((65_536, 65_537, 5_517, 65_535)) - len(image)) + image)
+        s.look("check", "show good 0", "entries")
+
+
+PATHS = ("good.img", "empty", "full", "large", "huge", "folder", "folder/", "missing", "missing/a.img", ".", "/", "/dev/null",
+         "/dev/zero", "n" * 300, "n/" * 2600, "good.img\0x", "good.img/", "h\u00e9.img", "")
+SAVED = ("a.img", "a.img", "folder/b.img", "./c.img", "h\u00e9.img")
+NOT_SAVED = ("folder", "folder/", "missing/a.img", "/", ".", "n" * 300, "n/" * 2600, "good.img/", "a\0b", "/dev/full", "")
+
+
+def files(s):
+    """Images saved and opened again, good and bad, and files that are not there, are folders or are too large."""
+    board = shapes.small(s.rng)
+    s.load(board)
+    s.say("save", s.rng.choice(NOT_SAVED))
+    for defect in (None,) + shapes.DEFECTS:
+        path = s.rng.choice(SAVED)
+        if defect:
+            s.say("load", defect(s.rng, board))
+        s.say("save", path)
+        s.say("load", s.rng.choice((make.T, make.H, b"", make.T + bytes(900))))
+        s.say("open", s.rng.choice(PATHS))
+        s.look(s.rng.choice(LOOKS).decode())
+        s.say("open", path)
+        s.look("image", "show good 0")
+
+
+# each sort of part and how often it comes
+PARTS = {
+    exhaustive: 6, every_row: 6, largest: 2, many_inputs: 3, refusals: 8, every_refusal: 5, bad_image: 4, bad_boards: 5,
+    damaged_image: 5, random_image: 3, alterations: 10, bench_sheet: 2, refreshes: 5, five_values: 5, malformed: 8, lengths: 4,
+    long_lines: 3, files: 5,
+}
+
+
+@functools.lru_cache(maxsize=1)
+def script(seed, commands):
+    """A script of at least so many commands; the same seed gives the same script."""
+    s = Script(seed)
+    sorts, weights = list(PARTS), list(PARTS.values())
+    first = [before_load, gate_tables]
+    while len(s.commands) < commands:
+        part = first.pop(0) if first else s.rng.choices(sorts, weights)[0]
+        s.parts.append((len(s.commands), part.__name__))
+        part(s)
+    return s

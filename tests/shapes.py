@@ -1,0 +1,321 @@
+"""Boards of every shape for the comparison, good images of them, and images with one thing wrong."""
+import importlib.util
+import struct
+from pathlib import Path
+
+ROOT = Path(__file__).resolve().parent.parent
+spec = importlib.util.spec_from_file_location("make", ROOT / "boards/make.py")
+make = importlib.util.module_from_spec(spec)
+spec.loader.exec_module(make)
+
+
+class Board:
+    """Records as (kind, pins), output lines and a note."""
+
+    def __init__(self, records, outputs, note=b""):
+        self.records, self.outputs, self.note = list(records), list(outputs), note
+        self.inputs = sum(kind == make.INPUT for kind, _ in self.records)
+        self.lines = len(self.records)
+
+    def image(self):
+        """The bytes of its image."""
+        return make.image([packed(record) for record in self.records], self.outputs, self.note)
+
+    def cost(self, faults=1):
+        """How many gate values a search for so many faults asks for at most."""
+        return faults * 2 * self.lines << self.inputs
+
+    def record_at(self, line):
+        """Where a line's record starts in the image."""
+        return len(self.note) + 10 * line
+
+
+INPUT = (make.INPUT, ())
+
+
+def packed(record):
+    """The ten bytes of a record."""
+    kind, pins = record
+    return make.record(kind, *pins)
+
+
+def pin_count(rng, kind):
+    """A pin count that is allowed for a gate of this kind."""
+    return 1 if kind < make.AND else rng.randrange(2, 5)
+
+
+def gate(rng, low, line, kind=None):
+    """A good gate for a line, with pins from `low` on; some name one line on two pins."""
+    kind = kind or rng.randrange(1, 9)
+    pins = [rng.randrange(low, line) for _ in range(pin_count(rng, kind))]
+    if len(pins) > 1 and rng.random() < 0.15:
+        pins[-1] = pins[0]
+    return kind, tuple(pins)
+
+
+def some_outputs(rng, lines, most):
+    """Some rising output lines; the last line is often one of them."""
+    outputs = set(rng.sample(range(lines), rng.randint(1, min(lines, most))))
+    if rng.random() < 0.7 and len(outputs) < 64:
+        outputs.add(lines - 1)
+    return sorted(outputs)
+
+
+def mixed(rng, inputs, gates, most_outputs=4, near=24):
+    """Gates of every kind on lines not far below."""
+    records = [INPUT] * inputs
+    for line in range(inputs, inputs + gates):
+        records.append(gate(rng, max(0, line - near), line))
+    return Board(records, some_outputs(rng, len(records), most_outputs))
+
+
+def chain(rng, inputs, gates):
+    """Buffers and nots, each on the line before."""
+    records = [INPUT] * inputs + [(rng.choice((1, 2)), (inputs - 1 + i,)) for i in range(gates)]
+    return Board(records, [len(records) - 1])
+
+
+def tree(rng, inputs, _gates):
+    """Gates that take each line once, down to one output."""
+    records, free = [INPUT] * inputs, list(range(inputs))
+    while len(free) > 1:
+        count = min(len(free), rng.randrange(2, 5))
+        records.append((rng.randrange(3, 9), tuple(free[:count])))
+        free = free[count:] + [len(records) - 1]
+    return Board(records, free)
+
+
+def redundant(rng, inputs, gates):
+    """Much meets its own opposite again, so that many faults have no test."""
+    records = [INPUT] * inputs
+    for line in range(inputs, inputs + gates):
+        pins = (rng.randrange(inputs), line - 1, rng.randrange(max(0, line - 3), line))
+        records.append((make.NOT, pins[:1]) if line % 3 == 0 else (rng.randrange(3, 9), pins[: rng.randrange(2, 4)]))
+    return Board(records, [len(records) - 1])
+
+
+def islands(rng, inputs, gates):
+    """Parts side by side with an output each, which alterations may join and cut."""
+    count = rng.randint(2, 3)
+    records, ends = [INPUT] * inputs, {i % count: i for i in range(inputs)}
+    for line in range(inputs, inputs + gates):
+        part = line % count
+        below = [i for i in range(line) if i % count == part] or [0]
+        kind = rng.randrange(1, 9)
+        records.append((kind, tuple(rng.choice(below) for _ in range(pin_count(rng, kind)))))
+        ends[part] = line
+    return Board(records, sorted(set(ends.values())))
+
+
+def inputs_only(rng, inputs, _gates):
+    """No gate at all; outputs are inputs."""
+    return Board([INPUT] * inputs, some_outputs(rng, inputs, inputs))
+
+
+def sheet(rng, *_):
+    """Boards S, T and H of document 01."""
+    s = [INPUT] * 4 + [(make.NOR, p) for p in ((1, 2), (4, 0), (4, 3), (0, 2), (7, 1), (1, 3), (9, 2), (5, 6, 8, 10))]
+    t = [INPUT, (make.NOT, (0,)), (make.OR, (0, 1))]
+    h = [INPUT, INPUT, (make.NOT, (0,)), (make.BUFFER, (1,))]
+    return Board(*rng.choice(((s, [11]), (t, [2]), (h, [2, 3]))))
+
+
+def a_note(rng):
+    """A note: often none, else up to 256 bytes, some of them with a whole trailer or a whole image inside."""
+    kind = rng.randrange(6)
+    if kind < 3:
+        return b""
+    if kind == 3:
+        return rng.randbytes(rng.choice((1, 12, 255, 256, rng.randrange(257))))
+    inside = rng.choice((make.T, make.T[-12:], make.H, make.MARK))
+    return rng.choice((inside, (rng.randbytes(256) + inside)[-256:], inside.ljust(256, b"\0")))
+
+
+SHAPES = (mixed, mixed, chain, tree, redundant, redundant, islands, islands, inputs_only, sheet)
+
+
+def small(rng):
+    """A board of a few lines."""
+    board = rng.choice(SHAPES)(rng, rng.randint(1, 4), rng.randint(1, 8))
+    board.note = a_note(rng)
+    return board
+
+
+def middle(rng):
+    """A board of some ten lines."""
+    board = rng.choice((mixed, redundant, islands))(rng, rng.randint(2, 7), rng.randint(6, 40))
+    board.note = a_note(rng)
+    return board
+
+
+def late(rng):
+    """A board of 7 to 13 inputs and few gates, where the first pattern that shows a fault is often a high one."""
+    shape = rng.choice((tree, tree, mixed))
+    return shape(rng, rng.randint(7, 13), rng.randint(2, 5))
+
+
+def large(rng):
+    """A board of up to 512 lines and 64 outputs, with few inputs; some are the largest there are."""
+    lines, inputs = rng.choice((512, 511, 256, 257, rng.randrange(65, 512))), rng.randint(1, 3)
+    board = mixed(rng, inputs, lines - inputs, 64, rng.choice((4, 24, 512)))
+    if rng.random() < 0.3:
+        board.outputs = sorted(rng.sample(range(lines), 64))
+    if rng.random() < 0.3:
+        board = chain(rng, inputs, lines - inputs)
+    board.note = rng.choice((b"", rng.randbytes(256)))
+    return board
+
+
+def wide(rng):
+    """A board of up to 24 inputs with a few gates behind them; the last gate reaches no output."""
+    inputs = rng.choice((24, 24, 23, rng.randrange(12, 25)))
+    records = [INPUT] * inputs
+    for line in range(inputs, inputs + rng.randrange(4)):
+        records.append(gate(rng, 0, line))
+    outputs = some_outputs(rng, len(records), 8)
+    return Board(records + [gate(rng, 0, len(records))], outputs, a_note(rng))
+
+
+def some_islands(rng):
+    """A small board of parts side by side."""
+    return islands(rng, rng.randint(2, 4), rng.randint(3, 10))
+
+
+def good_record(rng, line):
+    """A record that a gate's line takes; pins near or far."""
+    return gate(rng, rng.choice((0, max(0, line - 6))), line)
+
+
+def bad_record(rng, line):
+    """Ten bytes that are a bad record at a line: each field in turn may be the first bad one."""
+    kind, pins = gate(rng, 0, line) if line else (make.BUFFER, (0,))
+    data = bytearray(make.record(kind, *pins))
+    field = rng.randrange(6)
+    too_high = rng.choice((line, line + 1, 511, 512, 65535, line + 256))
+    if field == 0:
+        data[0] = rng.choice((0, 9, 10, 128, 255))
+    elif field == 1:
+        allowed = (1,) if kind < 3 else (2, 3, 4)
+        data[1] = rng.choice([c for c in (0, 1, 2, 3, 4, 5, 6, 255) if c not in allowed])
+    else:
+        struct.pack_into("<H", data, 2 * field - 2, max(too_high, line))
+    if rng.random() < 0.3:
+        at = rng.randrange(10)
+        data[at] = rng.choice((0, 1, 5, 255))
+    return bytes(data)
+
+
+def with_counts(board, lines=None, outputs=None, distance=None):
+    """The image with other numbers in its trailer; by default those that fit."""
+    image = board.image()
+    lines = board.lines if lines is None else lines
+    outputs = len(board.outputs) if outputs is None else outputs
+    distance = 12 + 2 * outputs + 10 * lines if distance is None else distance
+    return image[:-12] + struct.pack("<HHI", lines, outputs, distance % 2**32) + make.MARK
+
+
+def bad_mark(rng, board):
+    """Refusal 1: too short, or another mark."""
+    image = board.image()
+    at = len(image) - rng.randint(1, 4)
+    other = make.changed(image, at, bytes([image[at] ^ 1 << rng.randrange(8)]))
+    return rng.choice((b"", image[-rng.randint(1, 11):], image[:-1], other, image + b"\0", image[:-4]))
+
+
+def bad_counts(rng, board):
+    """Refusal 2: no line, 513 lines, no output, 65 outputs, or far more; the distance may fit them."""
+    distance = rng.choice((None, 44, 0))
+    if rng.random() < 0.2:
+        long = chain(rng, 1, 512)
+        return long.image()
+    if rng.random() < 0.2:
+        return Board(chain(rng, 1, 70).records, range(65)).image()
+    if rng.random() < 0.5:
+        return with_counts(board, lines=rng.choice((0, 513, 514, 512 + 256, 65535)), distance=distance)
+    return with_counts(board, outputs=rng.choice((0, 65, 66, 256, 257, 65535)), distance=distance)
+
+
+def bad_distance(rng, board):
+    """Refusal 3: each of its three ways, over all 32 bits."""
+    image, right = board.image(), 12 + 2 * len(board.outputs) + 10 * board.lines
+    way = rng.randrange(5)
+    if way == 0:
+        off = (right + 1, right - 1, right + 0x10000, right + 2**24, right + 2**31, 0, 12, 2**32 - 1, len(image) + 1)
+        return with_counts(board, distance=rng.choice(off))
+    if way == 1:
+        return image[-right:][rng.randint(1, right - 12):]
+    if way == 2:
+        return rng.randbytes(257) + image[-right:]
+    if way == 3:
+        return rng.choice((b"", b"\0" * 300)) + image[-12:]
+    return with_counts(board, lines=board.lines % 512 + 1, distance=right)
+
+
+def bad_records(rng, board):
+    """Refusal 4: a bad record at the first, the last or any line, a 25th input, an input after a gate."""
+    image = board.image()
+    way = rng.randrange(8)
+    if way == 0:
+        return Board([INPUT] * rng.choice((25, 26, 40)) + [(make.AND, (0, 23))], [24]).image()
+    if way == 1 and board.lines > board.inputs:
+        return make.changed(image, board.record_at(board.lines - 1), make.record(make.INPUT))
+    for line in {rng.choice((0, board.lines - 1, rng.randrange(board.lines))) for _ in range(rng.randint(1, 2))}:
+        data = bad_record(rng, line)
+        if line < board.inputs:
+            at = rng.randrange(1, 10)
+            data = make.changed(make.record(make.INPUT), at, bytes([rng.randint(1, 255)]))
+        if line == 0 and rng.random() < 0.5:
+            data = make.record(rng.randrange(1, 9), *([0] * rng.randint(1, 4)))
+        image = make.changed(image, board.record_at(line), data)
+    return image
+
+
+def bad_outputs(rng, board):
+    """Refusal 5: an output equal to the one before, below it, or not below the line count."""
+    outputs = list(board.outputs)
+    while len(outputs) < min(3, board.lines):
+        outputs = sorted(set(outputs) | {rng.randrange(board.lines)})
+    for _ in range(rng.randint(1, 2)):
+        place = rng.randrange(len(outputs))
+        before = outputs[place - 1] if place else board.lines
+        outputs[place] = rng.choice((before, max(before - 1, 0), board.lines, board.lines + 1, 65535, board.lines + 256))
+    return Board(board.records, outputs, board.note).image()
+
+
+DEFECTS = (bad_mark, bad_counts, bad_distance, bad_records, bad_outputs)
+
+
+def several_defects(rng, board):
+    """A bad record and bad outputs at once, under a trailer that may be bad too."""
+    worse = Board(board.records, [o + board.lines for o in board.outputs], board.note)
+    image = bad_records(rng, worse)
+    if rng.random() < 0.5:
+        image = make.changed(image, len(image) - rng.randint(1, 12), rng.randbytes(1))
+    return image
+
+
+def damaged(rng, image):
+    """A good image with a byte or a bit changed, cut short or made longer."""
+    way, at = rng.randrange(7), rng.randrange(len(image))
+    if way < 3:
+        return make.changed(image, at, bytes([image[at] ^ 1 << rng.randrange(8)]))
+    if way == 3:
+        return make.changed(image, at, rng.randbytes(1))
+    if way == 4:
+        return image[: at + 1] if rng.random() < 0.5 else image[at:]
+    if way == 5:
+        return image[:at] + rng.randbytes(rng.randint(1, 3)) + image[at:]
+    return image[:at] + image[at + 1:]
+
+
+def random_bytes(rng):
+    """Random bytes as an image; some with a mark, some with a trailer that fits their length."""
+    data = rng.randbytes(rng.randrange(120))
+    way = rng.randrange(3)
+    if way == 0:
+        return data
+    if way == 1:
+        return data + make.MARK
+    lines, outputs = rng.randint(1, 8), rng.randint(1, 4)
+    few = bytes(rng.randrange(rng.choice((2, 10))) for _ in range(10 * lines + 2 * outputs))
+    return few + struct.pack("<HHI", lines, outputs, 12 + len(few)) + make.MARK
