@@ -124,9 +124,11 @@ def left_behind(folder):
     return {p.relative_to(folder): p.read_bytes() if p.is_file() else None for p in folder.rglob("*")}
 
 
-def cut(text):
-    """Text short enough for a message."""
-    return repr(text[:90])[2:-1] + (f" .. ({len(text)} bytes)" if len(text) > 90 else "")
+def cut(text, at=0):
+    """Text short enough for a message, from a little before a place on."""
+    start = max(0, at - 30)
+    part = repr(text[start:start + 90])[2:-1]
+    return (".. " if start else "") + part + (f" .. ({len(text)} bytes)" if start + 90 < len(text) else "")
 
 
 def first_difference(script, part, expected, found):
@@ -141,9 +143,11 @@ def first_difference(script, part, expected, found):
 def described(seed, number, script, part, k, expected, found):
     """The words for a difference, and the part up to it, which shows it alone."""
     start, name = script.parts[part]
+    wrong = found[k] if k < len(found) else b"no answer"
+    at = next((i for i, (a, b) in enumerate(zip(expected[k], wrong)) if a != b), min(len(expected[k]), len(wrong)))
     words = (f"FAILED: seed {seed}, script {number}, command {k} (part {part}, {name})\n"
-             f"  command:     {cut(script.commands[k])}\n  independent: {cut(expected[k])}\n"
-             f"  product:     {cut(found[k]) if k < len(found) else 'no answer'}")
+             f"  command:     {cut(script.commands[k])}\n  independent: {cut(expected[k], at)}\n"
+             f"  product:     {cut(wrong, at)}")
     return words, b"\n".join(script.commands[start:k + 1]) + b"\n"
 
 
@@ -213,6 +217,7 @@ ENDINGS = (b"", b"\n", b"check", b"check\n", b"check\n\n", b"\n\nhelp", b" ", b"
 def ends_alike(product, oracle):
     """How many of those inputs get as many answers, and the same ones, from both programs."""
     def lines(program, data):
+        """What a program writes, line by line."""
         return subprocess.run(program, input=data, stdout=subprocess.PIPE, timeout=TIMEOUT).stdout.split(b"\n")
     return sum(same_lines(lines(oracle, data), lines(product, data), data.split(b"\n")) for data in ENDINGS)
 

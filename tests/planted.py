@@ -2,11 +2,12 @@
 """Planted mistakes that the comparison must catch.
 
     tests/planted.py             each edit in tests/planted/ in a copy of the independent program, held against the program itself
-    tests/planted.py --product   each must-fail edit of the product's code in a copy of the product, run with no proof by `rt try`
+    tests/planted.py --product   each must-fail edit of the product's code in a copy of the product, compiled with no proof
 
 An edit has a line that describes it, then `file:`, then pairs of `old:` and `new:`. Its last line is 'N passed, M failed'.
 """
 import concurrent.futures
+import os
 import shutil
 import subprocess
 import sys
@@ -14,14 +15,11 @@ import tempfile
 from pathlib import Path
 
 import compare
-import scripts
 from shapes import ROOT
 
-SEED, COMMANDS = 1, 6_000
+SEED, SCRIPTS = 1, 12
 # quick to compile, and running past an end or a number's width is left to the comparison
 COMPILER = ["rustc", "--edition=2021", "-Copt-level=0", "-Cdebug-assertions=off", "-Awarnings"]
-# what rt try says of the program compiled at -O3; its interpreter stops after some millions of steps
-COMPILED = "the native program at -O3"
 
 
 def pairs(edit):
@@ -42,6 +40,15 @@ def plant(edit, folder):
     (folder / name).write_text(text)
 
 
+def differences(program):
+    """The answers of a program that differ from the independent program's, on the first of the gate's scripts where some do."""
+    for number in range(SCRIPTS):
+        failures = compare.held_against(SEED, number, compare.SCRIPT, program, compare.ORACLE, 20)[1]
+        if failures:
+            return [" |".join(words.split("\n")[1:]) for words, commands in failures if commands]
+    return []
+
+
 def caught_in_oracle(edit):
     """What the comparison says of the independent program with a mistake; nothing where it is not caught."""
     with tempfile.TemporaryDirectory() as room:
@@ -50,8 +57,7 @@ def caught_in_oracle(edit):
         plant(edit, folder)
         program = Path(room) / "planted"
         subprocess.run([*COMPILER, "-o", program, folder / "src/main.rs"], check=True)
-        failures = compare.held_against(SEED, 0, COMMANDS, [str(program), "console"], compare.ORACLE, 10)[1]
-        return [" |".join(words.split("\n")[1:]) for words, commands in failures if commands]
+        return differences([str(program), "console"])
 
 
 def product_edits():
@@ -61,53 +67,54 @@ def product_edits():
     return [edit for edit in edits if pairs(edit)[0].startswith("src/")]
 
 
-def plain_script(room):
-    """A script without `?` and `help`, whose words are free, and the independent program's answers to it."""
-    commands = [c for c in scripts.script(f"{SEED}/0", COMMANDS).commands if c[:4] not in (b"help", b"open", b"save")]
-    (room / "script").write_bytes(b"\n".join(commands) + b"\n")
-    answers, _ = compare.answers(compare.ORACLE, room / "script", compare.scratch(room / "first"))
-    kept = [(c, a) for c, a in zip(commands, answers) if not a.startswith(b"?")]
-    return tuple(b"".join(words + b"\n" for words in column) for column in zip(*kept))
+def keeping_kit(room):
+    """A kit for `rt try` whose linker keeps what it links in room/kept; all else is the installed kit's."""
+    kit = Path(subprocess.check_output(["rt", "doc"], text=True)).parent.parent
+    machine = Path("on") / os.uname().machine
+    bare = [Path("."), Path("on"), machine, machine / "toolchain", machine / "toolchain/bin"]
+    for folder in bare:
+        (room / "kit" / folder).mkdir()
+        for inside in (kit / folder).iterdir():
+            if inside.relative_to(kit) not in bare:
+                (room / "kit" / folder / inside.name).symlink_to(inside)
+    linker = room / "kit" / machine / "toolchain/bin/ld.lld"
+    linker.unlink()
+    linker.write_text(f'#!/bin/sh\n{kit / machine}/toolchain/bin/ld.lld "$@" && cp program {room}/kept/$(ls {room}/kept | wc -l)\n')
+    linker.chmod(0o755)
+    (room / "kept").mkdir()
+    return room / "kit"
 
 
-def tried(edit, script, answers):
-    """What `rt try` says of the product with an edit, or with none, compiled at -O3: whether it wrote the answers, and what else instead."""
+def unproved(edit, room):
+    """The launcher in a copy of the product with an edit, compiled with no proof at -O3, which `rt try` links second."""
+    shutil.copytree(ROOT / "crates", room / "crates")
+    for name in ("crates.txt", "bench"):
+        shutil.copy(ROOT / name, room)
+    for name in ("stdin", "stdout"):
+        (room / "crates/bench" / name).write_bytes(b"")
+    if edit:
+        plant(edit, room / "crates" / edit.parent.parent.name)
+    tried = subprocess.run(["rt", "try", "bench"], cwd=room, env={**os.environ, "RATTLE_HOME": str(keeping_kit(room))}, capture_output=True)
+    if not (room / "kept/1").exists():
+        raise SystemExit(f"{edit}: rt try compiled nothing: {tried.stdout} {tried.stderr}")
+    (room / "target/bin").mkdir(parents=True)
+    shutil.copy(room / "kept/1", room / "target/bin/bench")
+    return [str(room / "bench"), "bench"]
+
+
+def caught_in_product(edit):
+    """What the comparison says of the product with a mistake, or as it is; nothing where it sees no difference."""
     with tempfile.TemporaryDirectory() as room:
-        copy = Path(room)
-        shutil.copy(ROOT / "crates.txt", copy)
-        shutil.copytree(ROOT / "crates", copy / "crates")
-        (copy / "crates/bench/stdin").write_bytes(script)
-        (copy / "crates/bench/stdout").write_bytes(answers)
-        if edit:
-            plant(edit, copy / "crates" / edit.parent.parent.name)
-        done = subprocess.run(["rt", "try", "bench"], cwd=copy, stdout=subprocess.PIPE, stderr=subprocess.STDOUT)
-    said = done.stdout.decode(errors="replace")
-    before, found, after = said.partition(COMPILED)
-    if not found:
-        raise SystemExit(f"{edit}: rt try compiled nothing: {said}")
-    return before.endswith("ok: "), after.split("\n")[1]
-
-
-def caught_in_product(edit, script, answers):
-    """How the product with a mistake answers otherwise than the independent program; nothing where it does not."""
-    same, instead = tried(edit, script, answers)
-    return [] if same else [instead]
-
-
-def product_checks():
-    """The must-fail edits, and their check over one script, once the product as it is agrees on that script."""
-    with tempfile.TemporaryDirectory() as room:
-        script, answers = plain_script(Path(room))
-    if not tried(None, script, answers)[0]:
-        raise SystemExit("the product as it is does not answer as the independent program")
-    return product_edits(), lambda edit: caught_in_product(edit, script, answers)
+        return differences(unproved(edit, Path(room)))
 
 
 def main():
     """Every planted mistake, whether it was caught and by which answer, and the count."""
     subprocess.run(compare.BUILD, check=True)
     if sys.argv[1:] == ["--product"]:
-        edits, check = product_checks()
+        edits, check = product_edits(), caught_in_product
+        if caught_in_product(None):
+            raise SystemExit("the product as it is does not answer as the independent program does")
     else:
         edits, check = sorted((ROOT / "tests/planted").glob("*.edit")), caught_in_oracle
     passed = 0

@@ -20,6 +20,7 @@ class Script:
     """The commands so far, where each part begins, the image's board and what is lent."""
 
     def __init__(self, seed):
+        """An empty script, with credit for a few searches."""
         self.rng = random.Random(seed)
         self.commands, self.parts, self.credit = [], [], 200_000
         self.board = None
@@ -284,6 +285,7 @@ def every_refusal(s):
                 lambda: s.judge(pattern, line, s.bad_stuck()), lambda: s.judge(s.bad_pattern(), line, stuck),
                 lambda: s.find(s.bad_line(), stuck), lambda: s.find(line, s.bad_stuck()),
                 lambda: s.alter(s.bad_line(), a_record(s, line)), lambda: s.alter(line, shapes.bad_record(s.rng, line)),
+                lambda: s.alter(min(s.board.inputs, n - 1), make.record(make.INPUT)),
                 lambda: s.refresh(s.bad_line(), pattern), lambda: s.refresh(line, s.bad_pattern()),
                 lambda: s.refresh(n - 1, pattern), lambda: s.five(named, values, s.bad_line(), stuck),
                 lambda: s.five(named, values, line, s.bad_stuck()), lambda: s.five(*s.bad_partial(), line, stuck)):
@@ -437,13 +439,13 @@ def respaced(rng, text):
     """The command with a space too many, a tab or a carriage return, or in capitals."""
     at = rng.choice([i for i, c in enumerate(text) if c == " "] + [0, len(text)])
     rest = text[at + 1:] if text[at:at + 1] == " " else text[at:]
-    return rng.choice((text[:at] + " " + text[at:], text + " ", " " + text, text + "\r", text[:at] + "\t" + rest,
+    return rng.choice((text[:at] + " " + text[at:], text[:at] + " " + text[at:], text + " ", " " + text, text + "\r", text[:at] + "\t" + rest,
                        text.upper(), text.capitalize(), text[:at] + rest, text.replace(" ", ",", 1)))
 
 
 def malformed_command(rng, text):
     """The command with a word missing, added or unreadable, or with a strange byte in it."""
-    words, way = text.split(" "), rng.randrange(7)
+    words, way = text.split(" "), rng.randrange(8)
     if way < 2:
         return respaced(rng, text).encode()
     if way == 2 and len(words) > 1:
@@ -451,7 +453,10 @@ def malformed_command(rng, text):
     if way in (3, 4) and len(words) > 1:
         words[rng.randrange(1, len(words))] = rng.choice([w for w in WORDS if not w.startswith("/") or words[0] not in FILE_WORDS])
         return " ".join(words).encode()
-    if way == 5 and words[0] not in FILE_WORDS:
+    if way == 5 and any(map(str.isdigit, words)):
+        wide = str(rng.choice((2**64, 2**64 + 1, 10 * 2**64, 2**128, 2**64 + rng.randrange(2**63), 10**20)))
+        return " ".join(wide if word.isdigit() and rng.random() < 0.7 else word for word in words).encode()
+    if way == 6 and words[0] not in FILE_WORDS:
         data = bytearray(text.encode())
         data[rng.randrange(len(data))] = rng.choice((0, 11, 12, 127, 128, 195, 255, 58, 47, 64, 96, 103, 71))
         return bytes(data)
@@ -537,7 +542,7 @@ PARTS = {
 }
 
 
-@functools.lru_cache(maxsize=1)
+@functools.lru_cache(maxsize=12)
 def script(seed, commands):
     """A script of at least so many commands; the same seed gives the same script."""
     s = Script(seed)

@@ -13,6 +13,7 @@ class Board:
     """Records as (kind, pins), output lines and a note."""
 
     def __init__(self, records, outputs, note=b""):
+        """A board of these records, good or bad."""
         self.records, self.outputs, self.note = list(records), list(outputs), note
         self.inputs = sum(kind == make.INPUT for kind, _ in self.records)
         self.lines = len(self.records)
@@ -195,8 +196,7 @@ def bad_record(rng, line):
     if field == 0:
         data[0] = rng.choice((0, 9, 10, 128, 255))
     elif field == 1:
-        allowed = (1,) if kind < 3 else (2, 3, 4)
-        data[1] = rng.choice([c for c in (0, 1, 2, 3, 4, 5, 6, 255) if c not in allowed])
+        data[1] = rng.choice((0, 2, 2, 3, 255) if kind < 3 else (0, 1, 1, 5, 5, 6, 255))
     else:
         struct.pack_into("<H", data, 2 * field - 2, max(too_high, line))
     if rng.random() < 0.3:
@@ -238,9 +238,11 @@ def bad_counts(rng, board):
 def bad_distance(rng, board):
     """Refusal 3: each of its three ways, over all 32 bits."""
     image, right = board.image(), 12 + 2 * len(board.outputs) + 10 * board.lines
-    way = rng.randrange(5)
+    way = rng.randrange(7)
+    if way > 4:
+        return with_counts(board, distance=right + rng.choice((0x10000, 2**24, 2**31, 2**16 * rng.randrange(2, 2**15))))
     if way == 0:
-        off = (right + 1, right - 1, right + 0x10000, right + 2**24, right + 2**31, 0, 12, 2**32 - 1, len(image) + 1)
+        off = (right + 1, right - 1, 0, 12, 2**32 - 1, len(image) + 1, len(image))
         return with_counts(board, distance=rng.choice(off))
     if way == 1:
         return image[-right:][rng.randint(1, right - 12):]
