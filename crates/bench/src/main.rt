@@ -1,23 +1,15 @@
 // The bench console: commands from standard input, one a line, each answered with one line on standard output.
-mod answer;
-mod files;
-mod input;
-mod kept;
-mod obey;
-mod part;
-mod write;
-
-use input::Place;
-use input::Step;
-use input::next_step;
-use kept::Held;
-use obey::obey;
-use write::write_plain;
+use console::kept::Held;
+use console::obey::obey;
+use ports::input::Place;
+use ports::input::Step;
+use ports::input::next_step;
+use ports::write::write_plain;
 ghost use mathlib.Core.Path.{_≡_};
 ghost use Prim.Native.Nat.{_≤_};
 ghost use lib.ListN.{length};
-ghost use Rattle.bench.specs.Kept.{Within, Arrays, mostRow, mostBook};
-ghost use Rattle.bench.specs.Input.{Inside, roomy};
+ghost use Rattle.console.specs.Kept.{Within, Arrays, mostRow, mostBook};
+ghost use Rattle.ports.specs.Input.{Inside, roomy};
 
 // Room for what is read: a line, and what came with it.
 fn blank_input() -> [u8; 262144]
@@ -47,6 +39,17 @@ struct State {
     open: bool,
 }
 
+// The console goes on from a place.
+fn onward(at: Place, held: Held) -> State
+    ensures { λ r. ⌜ (r .at ≡ at) × (r .held ≡ held) ⌝ }
+{
+    State {
+        at,
+        held,
+        open: true,
+    }
+}
+
 // Takes one step: answers a line, or reads on.
 fn turn(
     buf: &mut [u8],
@@ -61,24 +64,15 @@ fn turn(
     ensures { λ r. ⌜ Inside roomy (r .at) × Within (r .held) ⌝ }
 {
     match next_step(buf, at) {
-        Step::Line { from, to, next } => State {
-            at: next,
-            held: obey(&buf[from..to], img, good, faulty, book, held),
-            open: true,
-        },
+        Step::Line { from, to, next } => {
+            let kept = obey(&buf[from..to], img, good, faulty, book, held);
+            onward(next, kept)
+        }
         Step::Long(next) => {
             write_plain(b"? line too long\n");
-            State {
-                at: next,
-                held,
-                open: true,
-            }
+            onward(next, held)
         }
-        Step::More(next) => State {
-            at: next,
-            held,
-            open: true,
-        },
+        Step::More(next) => onward(next, held),
         Step::Last { from, to } => {
             if from < to {
                 obey(&buf[from..to], img, good, faulty, book, held);

@@ -1,8 +1,8 @@
 -- `bench::talk` ends: it counts its turns down, and the arrays keep their lengths.
 use mathlib.Core.Path.{_≡_}
 use lib.ListN.{length}
-use Rattle.bench.specs.Input.{Inside, roomy}
-use Rattle.bench.specs.Kept.{Within}
+use Rattle.ports.specs.Input.{Inside, roomy}
+use Rattle.console.specs.Kept.{Within}
 use borrow.Author.Needs.{needs}
 use Rattle.bench.proofs.talk.Statement.{statement}
 use Rattle.bench.proofs.talk.Tie as tie

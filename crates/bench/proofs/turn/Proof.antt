@@ -1,10 +1,16 @@
 -- `bench::turn` meets its contract: a line and the next place stand in the buffer.
 use Prim.Native.Nat.{_≤_}
 use native.Mathlib.Omega.{arith}
-use Rattle.bench.specs.Input.{Inside, roomy}
+use mathlib.Core.Path.{_≡_}
+use lib.ListN.{length}
+use Rattle.ports.specs.Input.{Inside, roomy}
 use borrow.Author.Needs.{needs}
 use Rattle.bench.proofs.turn.Statement.{statement}
 use Rattle.bench.proofs.turn.Tie as tie
+
+-- the buffer keeps its length
+long : (c : tie.After-next-step) → length (c .next-step .last .0) ≡ roomy
+long c = omega (arith, c .next-step .kept .0, c .before .before .before .before .before .before .before .pre .0)
 
 -- the line that was found, and the next place
 line : (c : tie.After-from) → (c .from .given .0 .0 ≤ c .from .given .0 .1 .0) × (c .from .given .0 .1 .0 ≤ roomy) × Inside roomy (c .from .given .0 .1 .1 .0)
@@ -20,23 +26,19 @@ enum-known-from : tie.Need-enum-known-from
 enum-known-from c = search needs
 
 sub-obey : tie.Need-sub-obey
-sub-obey c =
-    omega (arith, line (c .before))
+sub-obey c = omega (arith, line (c .before))
 
 part-obey-start : tie.Need-part-obey-start
-part-obey-start c =
-    let told = c .before .before in
-    let stepped = told .before .before .before .before in
-    omega (arith, line told, stepped .next-step .kept .0, stepped .before .before .before .before .before .before .before .pre .0)
+part-obey-start c = let told = c .before .before in omega (arith, line told, long (told .before .before .before .before))
 
 part-obey-end : tie.Need-part-obey-end
-part-obey-end c =
-    let told = c .before .before in
-    let stepped = told .before .before .before .before in
-    omega (arith, line told, stepped .next-step .kept .0, stepped .before .before .before .before .before .before .before .pre .0)
+part-obey-end c = let told = c .before .before in omega (arith, line told, long (told .before .before .before .before))
 
 obey-requires : tie.Need-obey-requires
 obey-requires c κs = search needs
+
+onward-requires : tie.Need-onward-requires
+onward-requires c κs = search needs
 
 enum-known-next : tie.Need-enum-known-next
 enum-known-next c = search needs
@@ -47,8 +49,14 @@ slice-aggregate-write-plain c = search needs
 write-plain-requires : tie.Need-write-plain-requires
 write-plain-requires c κs = search needs
 
+onward-requires-2 : tie.Need-onward-requires-2
+onward-requires-2 c κs = search needs
+
 enum-known-next-2 : tie.Need-enum-known-next-2
 enum-known-next-2 c = search needs
+
+onward-requires-3 : tie.Need-onward-requires-3
+onward-requires-3 c κs = search needs
 
 enum-known-from-2 : tie.Need-enum-known-from-2
 enum-known-from-2 c = search needs
@@ -60,10 +68,7 @@ part-obey-start-2 : tie.Need-part-obey-start-2
 part-obey-start-2 c = search needs
 
 part-obey-end-2 : tie.Need-part-obey-end-2
-part-obey-end-2 c =
-    let told = c .before .before .before in
-    let stepped = told .before .before .before .before in
-    omega (arith, last told, stepped .next-step .kept .0, stepped .before .before .before .before .before .before .before .pre .0)
+part-obey-end-2 c = let told = c .before .before .before in omega (arith, last told, long (told .before .before .before .before))
 
 obey-requires-2 : tie.Need-obey-requires-2
 obey-requires-2 c κs = search needs
@@ -85,16 +90,17 @@ same-length-5 c = search needs
 
 returns : tie.Need-returns
 returns c =
-    let obeyed = c .before .before .before .before .before .before .before .before in
-    (line (obeyed .before .before .before .before .before .before .before .before) .2, obeyed .obey .ensures)
+    let obeyed = c .before .before .before .before .before .before .before .before .before in
+    rw (c .onward .ensures .0, c .onward .ensures .1) (line (obeyed .before .before .before .before .before .before .before .before) .2, obeyed .obey .ensures)
 
 same-length-6 : tie.Need-same-length-6
 same-length-6 c = search needs
 
 returns-2 : tie.Need-returns-2
 returns-2 c =
-    let told = c .before .before .before in
+    let told = c .before .before .before .before in
     let stepped = told .before .before .before .before in
+    rw (c .onward2 .ensures .0, c .onward2 .ensures .1)
     (rw (told .next .given .1) at (stepped .next-step .ensures), stepped .before .before .before .before .before .before .before .pre .3)
 
 same-length-7 : tie.Need-same-length-7
@@ -102,8 +108,9 @@ same-length-7 c = search needs
 
 returns-3 : tie.Need-returns-3
 returns-3 c =
-    let told = c .before in
+    let told = c .before .before in
     let stepped = told .before .before .before .before in
+    rw (c .onward3 .ensures .0, c .onward3 .ensures .1)
     (rw (told .next2 .given .1) at (stepped .next-step .ensures), stepped .before .before .before .before .before .before .before .pre .3)
 
 same-length-8 : tie.Need-same-length-8
@@ -140,10 +147,13 @@ turn-spec =
     part-obey-start
     part-obey-end
     obey-requires
+    onward-requires
     enum-known-next
     slice-aggregate-write-plain
     write-plain-requires
+    onward-requires-2
     enum-known-next-2
+    onward-requires-3
     enum-known-from-2
     sub-obey-2
     part-obey-start-2
