@@ -1,14 +1,15 @@
 // The bench console: commands from standard input, one a line, each answered with one line on standard output.
-use console::kept::Held;
-use console::obey::obey;
+mod obey;
+
+use crate::obey::obey;
+use kept::Held;
 use ports::input::Place;
 use ports::input::Step;
 use ports::input::next_step;
 use ports::write::write_plain;
 ghost use mathlib.Core.Path.{_≡_};
-ghost use Prim.Native.Nat.{_≤_};
 ghost use lib.ListN.{length};
-ghost use Rattle.console.specs.Kept.{Within, Arrays, mostRow, mostBook};
+ghost use Rattle.kept.specs.Kept.{Within, Arrays};
 ghost use Rattle.ports.specs.Input.{Inside, roomy};
 
 // Room for what is read: a line, and what came with it.

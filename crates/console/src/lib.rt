@@ -1,5 +1,3 @@
-// The console's commands, on what is kept between them: the image, two rows and the book.
-mod answer;
-pub mod kept;
-pub mod obey;
-mod part;
+// The console's commands that use what is lent as it is.
+pub mod answer;
+pub mod part;

@@ -1,8 +1,5 @@
 -- Lines from standard input, by way of a buffer.
-use mathlib.Core.Path.{_≡_}
-use mathlib.Core.List.{List}
-use Prim.Native.Nat.{ℕ, _≤_, _<_}
-use lib.ListN.{length}
+use Prim.Native.Nat.{ℕ, _≤_}
 use Rattle.ports.specs.declared.input.Place.{Place}
 use Rattle.ports.specs.declared.input.Step.{Step}
 use Rattle.ports.specs.declared.input.Step.the-variants.{Line, Long, More, Last}

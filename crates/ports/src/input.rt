@@ -2,8 +2,8 @@
 use libc::STDIN_FILENO;
 ghost use mathlib.Core.Path.{_≡_};
 ghost use Prim.Native.Nat.{_+_, _-_, _≤_, _<_};
-ghost use lib.ListN.{length, take, drop};
-ghost use Rattle.ports.specs.Input.{Inside, Stepped, roomy, tooLong};
+ghost use lib.ListN.{length};
+ghost use Rattle.ports.specs.Input.{Inside, Stepped, roomy};
 
 // A line of this many bytes is too long.
 const TOO_LONG: usize = 200000;

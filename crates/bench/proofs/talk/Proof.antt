@@ -2,7 +2,7 @@
 use mathlib.Core.Path.{_≡_}
 use lib.ListN.{length}
 use Rattle.ports.specs.Input.{Inside, roomy}
-use Rattle.console.specs.Kept.{Within}
+use Rattle.kept.specs.Kept.{Within}
 use borrow.Author.Needs.{needs}
 use Rattle.bench.proofs.talk.Statement.{statement}
 use Rattle.bench.proofs.talk.Tie as tie

@@ -1,7 +1,6 @@
 -- `ports::files::read_all` reads into what is left of the buffer, and stops where nothing comes.
-use mathlib.Core.Path.{_≡_, refl}
-use Prim.Native.Nat.{_-_, _≤_, _<_}
-use native.Mathlib.Omega.{arith}
+use mathlib.Core.Path.{_≡_}
+use Prim.Native.Nat.{_-_, _≤_}
 use lib.ListN.{length}
 use borrow.Author.Needs.{needs}
 use Rattle.ports.proofs.files.read_all.Statement.{statement}

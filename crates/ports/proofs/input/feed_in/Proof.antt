@@ -1,7 +1,5 @@
 -- `ports::input::feed_in` stays within the bytes.
-use mathlib.Core.Path.{_≡_, refl}
-use Prim.Native.Nat.{_-_, _≤_, _<_}
-use native.Mathlib.Omega.{arith}
+use Prim.Native.Nat.{_-_, _≤_}
 use lib.ListN.{length}
 use borrow.Author.Needs.{needs}
 use Rattle.ports.proofs.input.feed_in.Statement.{statement}
