@@ -39,13 +39,13 @@ pub record Arrays (img good faulty book : List ℕ) : Type 0 where
   pub book-is : length book ≡ mostBook
 
 -- lend book: a fresh book of that length at the front of the array, and nothing changed where it is too long
-pub record LendBookOwes (n : ℕ) (h : Held) (book : List ℕ) (r : Held) (after : List ℕ) : Type 0 where
+pub record LendBookLeaves (n : ℕ) (h : Held) (book : List ℕ) (r : Held) (after : List ℕ) : Type 0 where
   pub within : Within r
   pub lends : n ≤ mostBook → (r ≡ record { image = h .image; good = h .good; faulty = h .faulty; book = n }) × (after ≡ replicate n freshNumber ++ drop n book)
   pub refuses : mostBook < n → (r ≡ h) × (after ≡ book)
 
 -- lend rows: the same of two rows
-pub record LendRowsOwes (g f : ℕ) (h : Held) (good faulty : List ℕ) (r : Held) (goodAfter faultyAfter : List ℕ) : Type 0 where
+pub record LendRowsLeaves (g f : ℕ) (h : Held) (good faulty : List ℕ) (r : Held) (goodAfter faultyAfter : List ℕ) : Type 0 where
   pub within : Within r
   pub lends :
       g ≤ mostRow → f ≤ mostRow
@@ -55,7 +55,7 @@ pub record LendRowsOwes (g f : ℕ) (h : Held) (good faulty : List ℕ) (r : Hel
   pub refuses : (mostRow < g) ⊎ (mostRow < f) → (r ≡ h) × (goodAfter ≡ good) × (faultyAfter ≡ faulty)
 
 -- put good and put faulty: a HEX word's bytes at the front of the array, and nothing changed where they are too many
-pub record PutRowOwes (word row : List ℕ) (old r : ℕ) (after : List ℕ) : Type 0 where
+pub record PutRowLeaves (word row : List ℕ) (old r : ℕ) (after : List ℕ) : Type 0 where
   pub within : r ≤ mostRow
   pub puts : length word / 2 ≤ mostRow → (r ≡ length word / 2) × (after ≡ hexBytes word ++ drop r row)
   pub refuses : mostRow < length word / 2 → (r ≡ old) × (after ≡ row)

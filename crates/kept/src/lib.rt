@@ -11,7 +11,7 @@ ghost use mathlib.Core.Bool.{true};
 ghost use Prim.Native.Nat.{_≤_};
 ghost use lib.ListN.{length, replicate};
 ghost use Rattle.words.specs.Hex.{isHex};
-ghost use Rattle.kept.specs.Kept.{Within, Arrays, mostImage, mostRow, mostBook, freshByte, freshNumber, LendBookOwes, LendRowsOwes, PutRowOwes};
+ghost use Rattle.kept.specs.Kept.{Within, Arrays, mostImage, mostRow, mostBook, freshByte, freshNumber, LendBookLeaves, LendRowsLeaves, PutRowLeaves};
 
 // The longest image, row and book that the console keeps.
 const MOST_IMAGE: usize = 65536;
@@ -141,7 +141,7 @@ pub fn open(
 // lend rows: two fresh rows of these lengths.
 pub fn lend_rows(g: u64, f: u64, good: &mut [u8], faulty: &mut [u8], held: Held) -> Held
     requires { ⌜ (length (now good) ≡ mostRow) × (length (now faulty) ≡ mostRow) × Within held ⌝ }
-    ensures { λ r. ⌜ LendRowsOwes g f held (now (good .entry)) (now (faulty .entry)) r (now (good .exit)) (now (faulty .exit)) ⌝ }
+    ensures { λ r. ⌜ LendRowsLeaves g f held (now (good .entry)) (now (faulty .entry)) r (now (good .exit)) (now (faulty .exit)) ⌝ }
 {
     let good_end = g as usize;
     let faulty_end = f as usize;
@@ -163,7 +163,7 @@ pub fn lend_rows(g: u64, f: u64, good: &mut [u8], faulty: &mut [u8], held: Held)
 // lend book: a fresh book of that length.
 pub fn lend_book(numbers: u64, book: &mut [u32], held: Held) -> Held
     requires { ⌜ (length (now book) ≡ mostBook) × Within held ⌝ }
-    ensures { λ r. ⌜ LendBookOwes numbers held (now (book .entry)) r (now (book .exit)) ⌝ }
+    ensures { λ r. ⌜ LendBookLeaves numbers held (now (book .entry)) r (now (book .exit)) ⌝ }
 {
     let n = numbers as usize;
     if MOST_BOOK < n {
@@ -183,7 +183,7 @@ pub fn lend_book(numbers: u64, book: &mut [u32], held: Held) -> Held
 // put good and put faulty: a row becomes a HEX word's bytes. Gives its length, which is the old one where they are too many.
 pub fn put_row(word: &[u8], row: &mut [u8], old: usize) -> usize
     requires { ⌜ (isHex (now word) ≡ true) × (length (now row) ≡ mostRow) × (old ≤ mostRow) ⌝ }
-    ensures { λ r. ⌜ PutRowOwes (now (word .entry)) (now (row .entry)) old r (now (row .exit)) ⌝ }
+    ensures { λ r. ⌜ PutRowLeaves (now (word .entry)) (now (row .entry)) old r (now (row .exit)) ⌝ }
 {
     let n = bytes_of(word);
     if MOST_ROW < n {
