@@ -73,6 +73,7 @@ ON_T = [
 
 
 def main():
+    """Asks everything in one run, and says what was answered otherwise."""
     commands = [f"load {data.hex() or '-'}" for _, data, _ in IMAGES] + [f"load {T.hex()}"] + [asked for asked, _ in ON_T]
     names = [name for name, _, _ in IMAGES] + ["board T again"] + [asked for asked, _ in ON_T]
     expected = [said for _, _, said in IMAGES] + ["board 3 lines 1 inputs 1 outputs"] + [said for _, said in ON_T]

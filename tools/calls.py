@@ -67,6 +67,7 @@ def exported_faults(text):
 
 
 def main():
+    """Says what is wrong, or how many calls there are."""
     text = (ROOT / "docs" / "PROMISES.md").read_text()
     rows = {}
     for _, rest in ROW.findall(text):

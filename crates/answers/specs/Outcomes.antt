@@ -14,7 +14,7 @@ use Rattle.find.specs.declared.Counted.{Counted}
 use Rattle.find.specs.declared.Counted.the-variants.{Entries, Refused as Uncounted}
 use Rattle.five.specs.declared.Driven.{Driven}
 use Rattle.five.specs.declared.Driven.the-variants.{Count, Refused as Undriven}
-use Rattle.report.specs.Text.{text}
+use Rattle.board.specs.Lists.{text}
 use Rattle.report.specs.Lines.{form, headerText, totalText, refusedText}
 
 -- board 3 lines 1 inputs 1 outputs

@@ -85,6 +85,30 @@ fn put_entry(place: u64, number: u64, book: &mut [u32], out: &mut [u8]) -> usize
     plain_line(b"lent\n", out)
 }
 
+// The line of five.
+fn five_line(asked: Command, img: &[u8], good: &mut [u8], out: &mut [u8]) -> usize
+    requires { ⌜ 96 ≤ length (now out) ⌝ }
+    ensures { λ n. ⌜ n ≤ length (now (out .exit)) ⌝ }
+{
+    match asked {
+        Command::Five {
+            named,
+            values,
+            line,
+            stuck,
+        } => five_answer(
+            img,
+            named,
+            values,
+            line as usize,
+            stuck_byte(stuck),
+            good,
+            out,
+        ),
+        _ => reason_line(Why::Unknown, out),
+    }
+}
+
 // The line of a command that names a fault.
 fn fault_line(
     asked: Command,
@@ -116,21 +140,7 @@ fn fault_line(
             stuck,
         } => judge_answer(img, pattern, line as usize, stuck_byte(stuck), out),
         Command::Find { line, stuck } => find_answer(img, line as usize, stuck_byte(stuck), out),
-        Command::Five {
-            named,
-            values,
-            line,
-            stuck,
-        } => five_answer(
-            img,
-            named,
-            values,
-            line as usize,
-            stuck_byte(stuck),
-            good,
-            out,
-        ),
-        _ => reason_line(Why::Unknown, out),
+        _ => five_line(asked, img, good, out),
     }
 }
 

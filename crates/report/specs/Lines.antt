@@ -10,7 +10,8 @@ use Rattle.board.specs.Book.{lineFault}
 use Rattle.image.specs.Image.{lineCount, boardOf}
 use Rattle.image.specs.Refusals.{Accepted}
 use Rattle.report.specs.declared.entries.Line.{Line as Made}
-use Rattle.report.specs.Text.{text, spelled}
+use Rattle.board.specs.Lists.{text}
+use Rattle.report.specs.Text.{spelled}
 
 -- a form's text, with its numbers
 abbrev pub form : String → List ℕ → List ℕ

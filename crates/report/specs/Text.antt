@@ -4,18 +4,10 @@ use mathlib.Core.Option.{Option·getD}
 use mathlib.Core.List.{List, [], _∷_, _++_}
 use mathlib.Core.Bool.{cond}
 use Prim.Native.Nat.{ℕ, suc, _^_, _≤_}
-use Prim.Native.Char.{code}
-use Prim.Native.String as Quoted
-use Prim.Native.String.{String}
 use lib.Dec.{ltb, eqb}
 use lib.ListN.{length, take}
 use Rattle.io.specs.Digits.{digits}
 use Rattle.board.specs.Test.{first}
-
--- the bytes of a quoted text
-abbrev pub text : String → List ℕ
-text Quoted.[] = []
-text (Quoted._∷_ c cs) = code c ∷ text cs
 
 -- how many digits a number of 64 bits has
 unfoldable pub places : ℕ → ℕ

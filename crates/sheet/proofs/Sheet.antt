@@ -1,17 +1,18 @@
 -- The bench sheet holds: one test over the whole table, which is computed, and one lemma that takes it to what the calls owe.
-use mathlib.Core.Path.{_≡_, refl, _∙_}
+use mathlib.Core.Path.{_≡_, _∙_}
 use mathlib.Core.List.{List, [], _∷_}
-use mathlib.Core.Bool.{Bool, true, false, _&&_}
+use mathlib.Core.Bool.{Bool, true, _&&_}
 use Prim.Native.Nat.{ℕ}
-use lib.Dec.{T, eqb, eqb→eq}
+use lib.Dec.{T}
 use mir.Facts.{and-yes}
-use Rattle.board.specs.Lists.{build, bit}
+use Rattle.board.specs.Lists.{build, bit, same}
 use Rattle.board.specs.Row.{row, value}
 use Rattle.board.specs.Gate.{kinds, good}
 use Rattle.board.specs.Five.{everyFilling}
 use Rattle.board.specs.Reach.{reach, meets, touched}
 use Rattle.board.specs.Test.{differs, shows, first, find}
 use Rattle.board.specs.Book.{renewed}
+use Rattle.board.proofs.Lists.{same-is}
 use Rattle.board.specs.declared.Fault.the-variants.{Line}
 use Rattle.image.specs.Image.{lineCount, boardOf}
 use Rattle.image.specs.Refusals.{badField, firstBad, firstBadOutput, imageRefusals, firstRefusal, answer}
@@ -45,25 +46,11 @@ owed-answers (alters s book line new) vs e = λ r after later owes. owes .book-i
 owed-answers (good-row s x line stuck g f) vs e = λ r new later owes. owes .good-row ∙ e
 owed-answers (five-row s named values line stuck old) vs e = λ r new owes. owes .filled ∙ e
 
--- two lists of numbers are the same
-same : List ℕ → List ℕ → Bool
-same [] [] = true
-same [] (y ∷ ys) = false
-same (x ∷ xs) [] = false
-same (x ∷ xs) (y ∷ ys) = eqb x y && same xs ys
-
 -- the test: every line of the sheet has the numbers that its call owes
 agrees : List Starred → Bool
 unfolding same judgeRefusals rowsRefusals fiveRefusals fiveRow bookRefusals bookOf alterRefusals faultRefusals lineRefusals imageRefusals firstBad firstBadOutput first badField badAlteration broughtUp renewed touched meets reach find shows differs value build kinds everyFilling
 agrees [] = true
 agrees (one ∷ more) = same (owed (one .asked)) (one .numbers) && agrees more
-
-same-is : (xs ys : List ℕ) → T (same xs ys) → xs ≡ ys
-unfolding same
-same-is [] [] t = refl
-same-is [] (y ∷ ys) t = absurd t
-same-is (x ∷ xs) [] t = absurd t
-same-is (x ∷ xs) (y ∷ ys) t = let (head, tail) = and-yes (eqb x y) (same xs ys) t in cc (eqb→eq x y head, same-is xs ys tail)
 
 -- the one lemma: a table that passes the test holds
 agrees-holds : (rows : List Starred) → T (agrees rows) → Holds rows

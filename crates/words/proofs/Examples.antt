@@ -2,8 +2,8 @@
 use mathlib.Core.Path.{_≡_, refl}
 use mathlib.Core.List.{[], _∷_}
 use Prim.Native.String.{String}
-use Rattle.board.specs.Lists.{build}
-use Rattle.words.specs.Parts.{text, parts, last, same}
+use Rattle.board.specs.Lists.{build, text, same}
+use Rattle.words.specs.Parts.{parts, last}
 use Rattle.words.specs.Number.{every, valueFrom, isNumber}
 use Rattle.words.specs.Hex.{isHex, hexBytes}
 use Rattle.words.specs.Forms.{wordFit, formFit, firstForm}

@@ -5,7 +5,8 @@ use mathlib.Core.List.{List, [], _∷_, map}
 use Prim.Native.Nat.{ℕ, zero, suc, _-_, _≤_}
 use Prim.Native.String.{String}
 use lib.ListN.{length, drop}
-use Rattle.words.specs.Parts.{text, words, sides, last}
+use Rattle.board.specs.Lists.{text}
+use Rattle.words.specs.Parts.{words, sides, last}
 use Rattle.words.specs.Number.{numberAt}
 use Rattle.words.specs.Hex.{isHex}
 use Rattle.words.specs.Forms.{firstForm}

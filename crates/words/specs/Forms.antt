@@ -4,7 +4,8 @@ use mathlib.Core.List.{List, [], _∷_}
 use Prim.Native.Nat.{ℕ, suc}
 use lib.Dec.{eqb}
 use lib.ListN.{length}
-use Rattle.words.specs.Parts.{text, words, same}
+use Rattle.board.specs.Lists.{text, same}
+use Rattle.words.specs.Parts.{words}
 use Rattle.words.specs.Number.{isNumber, isFault, isAll}
 use Rattle.words.specs.Hex.{isHex}
 use Rattle.words.specs.declared.sorts.Sort.the-variants.{Path as PathByte}

@@ -4,8 +4,7 @@ use mathlib.Core.List.{List}
 use Prim.Native.Nat.{ℕ, _+_, _*_, _-_, _/_, _%_}
 use lib.Dec.{eqb, leb}
 use lib.ListN.{length, getD}
-use Rattle.board.specs.Lists.{build}
-use Rattle.words.specs.Parts.{text, same}
+use Rattle.board.specs.Lists.{build, text, same}
 use Rattle.words.specs.Number.{isAll}
 use Rattle.words.specs.declared.sorts.Sort.the-variants.{Hex}
 

@@ -1,18 +1,10 @@
 -- A line's words between its spaces, and a fault's numbers around its slash: the parts of a text between marks.
 use mathlib.Core.Path.{_≡_}
-use mathlib.Core.Bool.{Bool, true, false, cond, _&&_}
+use mathlib.Core.Bool.{Bool, true, false, cond}
 use mathlib.Core.List.{List, [], _∷_}
 use Prim.Native.Nat.{ℕ, zero, suc, _+_, _-_, _≤_}
-use Prim.Native.Char.{code}
-use Prim.Native.String as Quoted
-use Prim.Native.String.{String}
 use lib.Dec.{eqb, leb}
 use lib.ListN.{length, take, drop}
-
--- the bytes of a quoted text
-abbrev pub text : String → List ℕ
-text Quoted.[] = []
-text (Quoted._∷_ c cs) = code c ∷ text cs
 
 -- one byte more in front of the first part; a mark begins a part of its own
 abbrev pub grown : Bool → ℕ → List (List ℕ) → List (List ℕ)
@@ -42,13 +34,6 @@ unfoldable pub last : List (List ℕ) → List ℕ
 last [] = []
 last (p ∷ []) = p
 last (p ∷ q ∷ ps) = last (q ∷ ps)
-
--- two texts are the same
-unfoldable pub same : List ℕ → List ℕ → Bool
-same [] [] = true
-same [] (y ∷ ys) = false
-same (x ∷ xs) [] = false
-same (x ∷ xs) (y ∷ ys) = eqb x y && same xs ys
 
 -- the parts from a place on: none past the end
 unfoldable pub partsFrom : ℕ → List ℕ → ℕ → List (List ℕ)

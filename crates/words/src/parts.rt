@@ -2,7 +2,8 @@
 ghost use mathlib.Core.Path.{_≡_};
 ghost use Prim.Native.Nat.{_≤_};
 ghost use lib.ListN.{length, drop};
-ghost use Rattle.words.specs.Parts.{parts, last, same, Ends};
+ghost use Rattle.board.specs.Lists.{same};
+ghost use Rattle.words.specs.Parts.{parts, last, Ends};
 
 // Where the part that begins at a place ends: at the next mark, or at the end.
 pub fn part_end(s: &[u8], mark: u8, at: usize) -> usize

@@ -7,7 +7,8 @@ use native.Mathlib.Omega.{arith}
 use lib.ListN.{length, getD, take, drop, set, length-set}
 use lib.Seq.{drop-cons, take-suc-set, drop-length}
 use Rattle.io.specs.Digits.{glyph}
-use Rattle.report.specs.Text.{text, decimal}
+use Rattle.board.specs.Lists.{text}
+use Rattle.report.specs.Text.{decimal}
 use Rattle.answers.specs.Texts.{hexText, numbersText}
 
 -- one byte more, in two digits

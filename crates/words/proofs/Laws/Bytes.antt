@@ -12,7 +12,7 @@ use lib.ListN.{length, getD, drop}
 use lib.Seq.{drop-cons, drop-length}
 use borrow.Author.Tests.{eq-eqb, ne-eqb, eqb-true, eqb-false}
 use Rattle.board.proofs.Lists.{way, clash}
-use Rattle.words.specs.Parts.{same}
+use Rattle.board.specs.Lists.{same}
 use Rattle.words.specs.Number.{isOf, every, isAll}
 use Rattle.words.specs.declared.sorts.Sort.{Sort}
 

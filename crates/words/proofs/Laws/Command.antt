@@ -9,7 +9,8 @@ use native.Mathlib.Nat.{not-suc-le-zero, le-of-suc-le-suc, eq-or-lt-of-le}
 use lib.Dec.{eqb}
 use lib.ListN.{length, take, drop, length-drop}
 use lib.Seq.{take-all}
-use Rattle.words.specs.Parts.{text, parts, last, same}
+use Rattle.board.specs.Lists.{text, same}
+use Rattle.words.specs.Parts.{parts, last}
 use Rattle.words.specs.Hex.{isHex}
 use Rattle.words.specs.Forms.{fitIf, wordFit, lackFit, andThen, formFit, chosen, firstForm}
 use Rattle.words.specs.Command.{Row, itsForm, table, valuesOf, asksAt, formOf, commandOf, WordAt, HexAt, LastWord, ReadOwes}

@@ -10,9 +10,8 @@ use lib.Dec.{eqb, leb, ltb}
 use lib.ListN.{length, getD, drop, set, length-append, length-drop}
 use lib.Seq.{drop-cons, set-at}
 use borrow.Author.Tests.{leb-true}
-use Rattle.board.specs.Lists.{build}
+use Rattle.board.specs.Lists.{build, text}
 use Rattle.board.proofs.Lists.{or-true, build-length}
-use Rattle.words.specs.Parts.{text}
 use Rattle.words.specs.Number.{isHexDigit, isOf}
 use Rattle.words.specs.Hex.{isHex}
 use Rattle.words.specs.declared.sorts.Sort.the-variants.{Hex}

@@ -4,7 +4,7 @@ use mathlib.Core.Path.{_≡_, refl, sym}
 use native.Mathlib.Omega.{arith}
 use lib.ListN.{length, drop}
 use borrow.Author.Needs.{needs}
-use Rattle.words.specs.Parts.{same}
+use Rattle.board.specs.Lists.{same}
 use Rattle.words.proofs.Laws.Bytes.{same-lengths, same-more, same-not, same-end}
 use Rattle.words.proofs.parts.is_same.Statement.{statement}
 use Rattle.words.proofs.parts.is_same.Tie as tie
