@@ -2,7 +2,7 @@
 """Planted mistakes that the comparison must catch.
 
     tests/planted.py             each edit in tests/planted/ in a copy of the independent program, held against the program itself
-    tests/planted.py --few       every fifth of them, as the gate runs it
+    tests/planted.py --few       every ninth of them, as the gate runs it
     tests/planted.py --product   each must-fail edit of the product's code in a copy of the product, compiled with no proof
 
 An edit has a line that describes it, then `file:`, then pairs of `old:` and `new:`. Its last line is 'N passed, M failed'.
@@ -117,7 +117,7 @@ def main():
         if caught_in_product(None):
             raise SystemExit("the product as it is does not answer as the independent program does")
     else:
-        edits, check = sorted((ROOT / "tests/planted").glob("*.edit"))[:: 5 if sys.argv[1:] == ["--few"] else 1], caught_in_oracle
+        edits, check = sorted((ROOT / "tests/planted").glob("*.edit"))[:: 9 if sys.argv[1:] == ["--few"] else 1], caught_in_oracle
     passed = 0
     with concurrent.futures.ThreadPoolExecutor(2) as pool:
         for edit, said in zip(edits, pool.map(check, edits)):
