@@ -1,6 +1,3 @@
-// The console's answers, each made in a small buffer by a function whose contract says which bytes: a call's outcome as a line, and bytes
-// and numbers as text.
+// Each call with its answer's line, made in a small buffer by a function whose contract says which bytes.
 pub mod calls;
-pub mod hex;
-pub mod numbers;
 pub mod outcomes;

@@ -1,7 +1,9 @@
 // What the console keeps between commands, and the commands that lend or put something.
+use answers::calls::check_answer;
 use image::Checked;
 use ports::files::read_file;
-use ports::write::write_check;
+use ports::write::blank_line;
+use ports::write::write_out;
 use ports::write::write_plain;
 use report::put::put;
 use words::hex::bytes_of;
@@ -67,6 +69,13 @@ fn lines_of(img: &[u8]) -> usize
         } => lines,
         Checked::Refused(_) => 0,
     }
+}
+
+// Writes Check's answer.
+fn write_check(img: &[u8]) {
+    let mut out = blank_line();
+    let n = check_answer(img, &mut out);
+    write_out(&out, n);
 }
 
 // Lends fresh rows and a fresh book for the image of n bytes, and answers as Check does.

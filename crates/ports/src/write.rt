@@ -1,7 +1,6 @@
 // Answers on standard output. A long one is written in pieces.
-use answers::calls::check_answer;
-use answers::hex::hex_text;
-use answers::numbers::numbers_text;
+use crate::hex::hex_text;
+use crate::numbers::numbers_text;
 use libc::STDOUT_FILENO;
 ghost use mathlib.Core.Path.{_≡_};
 ghost use Prim.Native.Nat.{_-_, _≤_, _<_};
@@ -29,13 +28,6 @@ pub fn write_out(out: &[u8], n: usize)
     requires { ⌜ n ≤ length (now out) ⌝ }
 {
     io::write_all(STDOUT_FILENO, &out[..n]);
-}
-
-// Writes Check's answer.
-pub fn write_check(img: &[u8]) {
-    let mut out = blank_line();
-    let n = check_answer(img, &mut out);
-    write_out(&out, n);
 }
 
 // Where the piece of at most size that begins at a place ends.

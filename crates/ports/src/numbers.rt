@@ -3,7 +3,7 @@ use report::put::put_number;
 ghost use Prim.Native.Nat.{_*_, _≤_};
 ghost use lib.ListN.{length};
 ghost use Rattle.report.specs.Text.{Written};
-ghost use Rattle.answers.specs.Texts.{numbersText};
+ghost use Rattle.ports.specs.Texts.{numbersText};
 
 // Each number behind a space.
 pub fn numbers_text(numbers: &[u32], out: &mut [u8]) -> usize

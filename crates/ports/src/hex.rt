@@ -4,7 +4,7 @@ ghost use Prim.Native.Nat.{_*_, _≤_, _<_};
 ghost use lib.ListN.{length};
 ghost use Rattle.io.specs.Digits.{glyph};
 ghost use Rattle.report.specs.Text.{Written};
-ghost use Rattle.answers.specs.Texts.{hexText};
+ghost use Rattle.ports.specs.Texts.{hexText};
 
 // A digit, lower case.
 fn digit(d: u8) -> u8

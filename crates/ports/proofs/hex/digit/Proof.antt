@@ -1,8 +1,8 @@
--- `answers::hex::digit` meets its contract, by which side of ten the digit is.
+-- `ports::hex::digit` meets its contract, by which side of ten the digit is.
 use borrow.Author.Tests.{lt-ltb, le-ltb}
 use borrow.Author.Needs.{needs}
-use Rattle.answers.proofs.hex.digit.Statement.{statement}
-use Rattle.answers.proofs.hex.digit.Tie as tie
+use Rattle.ports.proofs.hex.digit.Statement.{statement}
+use Rattle.ports.proofs.hex.digit.Tie as tie
 
 add-result : tie.Need-add-result
 add-result c = search needs

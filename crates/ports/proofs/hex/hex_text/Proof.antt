@@ -1,14 +1,14 @@
--- `answers::hex::hex_text` meets its contract: what is made, and the text of the bytes left, is the whole text.
+-- `ports::hex::hex_text` meets its contract: what is made, and the text of the bytes left, is the whole text.
 use mathlib.Core.Path.{_≡_, refl, _∙_}
 use mathlib.Core.List.{_++_}
 use Prim.Native.Nat.{_+_, _*_, _-_, _≤_, _<_}
 use native.Mathlib.Omega.{arith}
 use lib.ListN.{length, take, drop, set, length-set}
-use Rattle.answers.specs.Texts.{hexText}
-use Rattle.answers.proofs.Laws.Texts.{hex-next, hex-end}
+use Rattle.ports.specs.Texts.{hexText}
+use Rattle.ports.proofs.Laws.Texts.{hex-next, hex-end}
 use borrow.Author.Needs.{needs}
-use Rattle.answers.proofs.hex.hex_text.Statement.{statement}
-use Rattle.answers.proofs.hex.hex_text.Tie as tie
+use Rattle.ports.proofs.hex.hex_text.Statement.{statement}
+use Rattle.ports.proofs.hex.hex_text.Tie as tie
 
 abbrev Inv-loop : tie.InvT-loop
 Inv-loop bytes out₀ i₀ out i = (i ≤ length bytes) × (length out ≡ length out₀) × (hexText bytes ≡ take (2 * i) out ++ hexText (drop i bytes))

@@ -1,14 +1,14 @@
--- `answers::numbers::numbers_text` meets its contract: what is made, and the text of the numbers left, is the whole text.
+-- `ports::numbers::numbers_text` meets its contract: what is made, and the text of the numbers left, is the whole text.
 use mathlib.Core.Path.{_≡_, refl, _∙_}
 use mathlib.Core.List.{_++_}
 use Prim.Native.Nat.{_+_, _*_, _-_, _≤_, _<_}
 use native.Mathlib.Omega.{arith}
 use lib.ListN.{length, take, drop, length-set}
-use Rattle.answers.specs.Texts.{numbersText}
-use Rattle.answers.proofs.Laws.Texts.{numbers-next, numbers-end}
+use Rattle.ports.specs.Texts.{numbersText}
+use Rattle.ports.proofs.Laws.Texts.{numbers-next, numbers-end}
 use borrow.Author.Needs.{needs}
-use Rattle.answers.proofs.numbers.numbers_text.Statement.{statement}
-use Rattle.answers.proofs.numbers.numbers_text.Tie as tie
+use Rattle.ports.proofs.numbers.numbers_text.Statement.{statement}
+use Rattle.ports.proofs.numbers.numbers_text.Tie as tie
 
 abbrev Inv-loop : tie.InvT-loop
 Inv-loop numbers out₀ at₀ i₀ out at i = (i ≤ length numbers) × (at ≤ 21 * i) × (length out ≡ length out₀) × (numbersText numbers ≡ take at out ++ numbersText (drop i numbers))

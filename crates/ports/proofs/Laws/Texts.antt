@@ -9,7 +9,7 @@ use lib.Seq.{drop-cons, take-suc-set, drop-length}
 use Rattle.io.specs.Digits.{glyph}
 use Rattle.board.specs.Lists.{text}
 use Rattle.report.specs.Text.{decimal}
-use Rattle.answers.specs.Texts.{hexText, numbersText}
+use Rattle.ports.specs.Texts.{hexText, numbersText}
 
 -- one byte more, in two digits
 pub hex-next : (bytes all out : List ℕ) (i : ℕ) → i < length bytes → 2 * i + 1 < length out → all ≡ take (2 * i) out ++ hexText (drop i bytes)
