@@ -1,6 +1,6 @@
 // Which lines a line reaches, as a row of marks, and which lines reach an output that a line reaches.
-use image::bytes::byte;
-use image::bytes::word;
+use image::numbers::byte;
+use image::numbers::word;
 use image::outputs::output;
 use image::trailer::first_record;
 use rows::fill::blank_row;

@@ -1,6 +1,6 @@
 // The new record: refusal 10, and its ten bytes in the image.
 use bytes::copy;
-use image::bytes::byte;
+use image::numbers::byte;
 use image::records::is_bad_field;
 use image::trailer::first_record;
 ghost use mathlib.Core.Path.{_≡_};

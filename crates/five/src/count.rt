@@ -1,5 +1,5 @@
 // How many output lines a row drives.
-use image::bytes::byte;
+use image::numbers::byte;
 use image::outputs::output;
 use image::trailer::output_count;
 ghost use mathlib.Core.Path.{_≡_};

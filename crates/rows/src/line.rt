@@ -2,8 +2,8 @@
 use board::Fault;
 use board::stuck_line;
 use board::stuck_pin;
-use image::bytes::byte;
-use image::bytes::word;
+use image::numbers::byte;
+use image::numbers::word;
 use image::pattern::bit_of;
 ghost use mathlib.Core.Path.{_≡_};
 ghost use mathlib.Core.List.{_++_};
