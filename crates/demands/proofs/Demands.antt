@@ -10,8 +10,8 @@ use Rattle.board.specs.Lists.{bit}
 use Rattle.board.specs.Board.{Board}
 use Rattle.board.specs.Test.{shows, find}
 use Rattle.board.specs.Book.{lineFault, found, Right}
-use Rattle.board.specs.declared.Fault.{Fault}
-use Rattle.board.specs.declared.Fault.the-variants.{Line}
+use Rattle.board.specs.declared.Condition.{Condition}
+use Rattle.board.specs.declared.Condition.the-variants.{Line}
 use Rattle.image.specs.Image.{boardOf}
 use Rattle.image.specs.Refusals.{imageRefusals, firstRefusal}
 use Rattle.image.specs.Check.{says, counts, CheckOwes}
@@ -84,7 +84,7 @@ alter-turns-away s book line new r after later owes =
 -- Demand 2. A pattern shows a fault when the good board and the faulty one differ at some output. Find gives the smallest such pattern, and
 -- "none" exactly when no pattern of the board's inputs shows it. Filling the book writes that answer for every line at 0 and at 1.
 
-pub shows-means : (b : Board) (φ : Fault) (x : ℕ) → (shows b φ x ≡ true → DifferSomewhere b φ x) × (DifferSomewhere b φ x → shows b φ x ≡ true)
+pub shows-means : (b : Board) (φ : Condition) (x : ℕ) → (shows b φ x ≡ true → DifferSomewhere b φ x) × (DifferSomewhere b φ x → shows b φ x ≡ true)
 shows-means b φ x = (shows-differ b φ x, differ-shows b φ x)
 
 pub find-right : (s : List ℕ) (line stuck : ℕ) (r : Found) → FindOwes s line stuck r → firstRefusal (faultRefusals s line stuck) ≡ none

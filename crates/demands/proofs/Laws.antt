@@ -13,8 +13,8 @@ use Rattle.board.specs.Lists.{somewhere, build}
 use Rattle.board.specs.Board.{Board, inputs, altered}
 use Rattle.board.specs.Test.{differs, shows, find}
 use Rattle.board.specs.Book.{lineFault, entry, renewed, Right}
-use Rattle.board.specs.declared.Fault.{Fault}
-use Rattle.board.specs.declared.Fault.the-variants.{Line}
+use Rattle.board.specs.declared.Condition.{Condition}
+use Rattle.board.specs.declared.Condition.the-variants.{Line}
 use Rattle.board.proofs.Lists.{clash, where-passes, passes-somewhere, build-length, build-at}
 use Rattle.board.proofs.Search.{first-is-smallest}
 use Rattle.board.proofs.Alter.{fresh-right}
@@ -80,11 +80,11 @@ alter-numbered s book line new =
     (given-numbered (not (eqb (length book) (2 * lineCount s))) (9 ∷ []) (lit< tt) (given-numbered (badAlteration s line new) (10 ∷ []) (lit< tt) none-numbered))
 
 -- two rows differ at an output, or the pattern does not show the fault
-pub shows-differ : (b : Board) (φ : Fault) (x : ℕ) → shows b φ x ≡ true → DifferSomewhere b φ x
+pub shows-differ : (b : Board) (φ : Condition) (x : ℕ) → shows b φ x ≡ true → DifferSomewhere b φ x
 unfolding shows differs
 shows-differ b φ x e = let (o, m, d) = where-passes (differs b φ x) (b .outs) e in (o, m, λ same. clash (differs b φ x o) d (rw (eq-eqb _ _ same)))
 
-pub differ-shows : (b : Board) (φ : Fault) (x : ℕ) → DifferSomewhere b φ x → shows b φ x ≡ true
+pub differ-shows : (b : Board) (φ : Condition) (x : ℕ) → DifferSomewhere b φ x → shows b φ x ≡ true
 unfolding shows differs
 differ-shows b φ x (o, m, ne) = passes-somewhere (differs b φ x) (b .outs) o m (rw (ne-eqb _ _ ne))
 

@@ -12,8 +12,8 @@ use Rattle.board.specs.Gate.{good, faulty}
 use Rattle.board.specs.Reach.{touched}
 use Rattle.board.specs.Test.{shows, Smallest, find}
 use Rattle.board.specs.Book.{lineFault, entry}
-use Rattle.board.specs.declared.Fault.{Fault}
-use Rattle.board.specs.declared.Fault.the-variants.{Line}
+use Rattle.board.specs.declared.Condition.{Condition}
+use Rattle.board.specs.declared.Condition.the-variants.{Line}
 use Rattle.image.specs.Image.{lineCount, recordAt, boardOf}
 use Rattle.image.specs.Refusals.{firstRefusal}
 use Rattle.alter.specs.Patch.{patched}
@@ -27,7 +27,7 @@ pub record TurnsAway (refusals : List (Option (List ℕ))) (said : List ℕ) (le
   pub unchanged : (v : List ℕ) → firstRefusal refusals ≡ some v → left ≡ lent
 
 -- demand 2: under pattern x the good board and the faulty one differ at some output
-abbrev pub DifferSomewhere : Board → Fault → ℕ → Type 0
+abbrev pub DifferSomewhere : Board → Condition → ℕ → Type 0
 DifferSomewhere b φ x = (o : ℕ) × (o among (b .outs)) × (value (good x) b o ≡ value (faulty φ x) b o → ⊥)
 
 -- of a line's fault on an image's board: the smallest pattern of the board's inputs that shows it, or none where no pattern does

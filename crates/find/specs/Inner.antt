@@ -10,7 +10,7 @@ use Rattle.board.specs.Board.{Board, inputs}
 use Rattle.board.specs.Test.{find}
 use Rattle.board.specs.Book.{lineFault, entry}
 use Rattle.board.specs.Gate.{site, stuck}
-use Rattle.board.specs.declared.Fault.{Fault}
+use Rattle.board.specs.declared.Condition.{Condition}
 use Rattle.image.specs.Image.{lineCount, outputCount, boardOf}
 use Rattle.image.specs.Refusals.{Accepted}
 use Rattle.find.specs.declared.search.Answer.{Answer}
@@ -22,7 +22,7 @@ answered (At p) = some p
 answered Nothing = none
 
 -- what a search asks: an accepted image with its counts, and a fault of its board
-pub record Askable (s : List ℕ) (lines ins outputs : ℕ) (φ : Fault) : Type 0 where
+pub record Askable (s : List ℕ) (lines ins outputs : ℕ) (φ : Condition) : Type 0 where
   pub ok : Accepted s
   pub lines-are : lines ≡ lineCount s
   pub ins-are : ins ≡ inputs (boardOf s)

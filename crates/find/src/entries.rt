@@ -3,7 +3,7 @@ use crate::search::Answer;
 use crate::search::Entry;
 use crate::search::NONE;
 use crate::search::smallest;
-use board::Fault;
+use board::Condition;
 use image::limits::MOST_LINES;
 use image::numbers::byte;
 ghost use mathlib.Core.Path.{_≡_};
@@ -41,7 +41,7 @@ fn renew_entry(
     ensures { λ r. ⌜ r ≡ cond marked (entry (smallestOf (boardOf (now (img .entry))) (lineFault k))) old ⌝ }
 {
     if marked {
-        let fault = Fault::Line(k / 2, (k % 2) as u8);
+        let fault = Condition::Line(k / 2, (k % 2) as u8);
         return entry_of(smallest(img, lines, inputs, outputs, fault));
     }
     old

@@ -2,7 +2,7 @@
 pub mod entries;
 pub mod search;
 
-use board::Fault;
+use board::Condition;
 use entries::fill_book;
 use image::Checked;
 use image::Refusal;
@@ -35,7 +35,7 @@ pub fn find(img: &[u8], line: usize, stuck: u8) -> Found
             lines,
             inputs,
             outputs,
-        } => match smallest(img, lines, inputs, outputs, Fault::Line(line, stuck)) {
+        } => match smallest(img, lines, inputs, outputs, Condition::Line(line, stuck)) {
             Answer::At(p) => Found::Pattern(p as u64),
             Answer::Nothing => Found::Nothing,
         },

@@ -1,5 +1,5 @@
 // The smallest pattern that shows a fault.
-use board::Fault;
+use board::Condition;
 use rows::fill::blank_row;
 use rows::outputs::shows_in;
 ghost use mathlib.Core.Path.{_≡_};
@@ -35,7 +35,7 @@ fn first_shown(
     img: &[u8],
     limit: Entry,
     outputs: usize,
-    fault: Fault,
+    fault: Condition,
     good: &mut [u8],
     faulty: &mut [u8],
 ) -> Answer
@@ -54,7 +54,7 @@ fn first_shown(
 }
 
 // The smallest pattern that shows the fault, or nothing.
-pub fn smallest(img: &[u8], lines: usize, inputs: usize, outputs: usize, fault: Fault) -> Answer
+pub fn smallest(img: &[u8], lines: usize, inputs: usize, outputs: usize, fault: Condition) -> Answer
     requires { ⌜ Askable (now img) lines inputs outputs fault ⌝ }
     ensures { λ r. ⌜ answered r ≡ find (boardOf (now (img .entry))) fault ⌝ }
 {

@@ -6,8 +6,8 @@ use Prim.Native.Nat.{ℕ}
 use Rattle.board.specs.Board.{inputs}
 use Rattle.board.specs.Row.{row}
 use Rattle.board.specs.Five.{five, partial}
-use Rattle.board.specs.declared.Fault.{Fault}
-use Rattle.board.specs.declared.Fault.the-variants.{Line}
+use Rattle.board.specs.declared.Condition.{Condition}
+use Rattle.board.specs.declared.Condition.the-variants.{Line}
 use Rattle.image.specs.Image.{lineCount, boardOf}
 use Rattle.image.specs.Refusals.{given, firstRefusal, answer}
 use Rattle.image.specs.Check.{number}
@@ -28,7 +28,7 @@ fiveRefusals s named values line stuck old =
     faultRefusals s line stuck ++ (given (badPartial (inputs (boardOf s)) named values) (8 ∷ []) ∷ given (badRow s old) (9 ∷ []) ∷ [])
 
 -- the five-value row of a fault under a partial pattern, one value a line
-unfoldable pub fiveRow : List ℕ → Fault → ℕ → ℕ → List ℕ
+unfoldable pub fiveRow : List ℕ → Condition → ℕ → ℕ → List ℕ
 fiveRow s φ named values = row (five φ (partial named values)) (boardOf s) (lineCount s)
 
 -- what the call owes: the answer, and the lent row afterwards

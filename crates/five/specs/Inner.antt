@@ -7,7 +7,7 @@ use Rattle.board.specs.Limits.{lastKind}
 use Rattle.board.specs.Gate.{stuck, heldPins}
 use Rattle.board.specs.Fine.{most}
 use Rattle.board.specs.Five.{hold5}
-use Rattle.board.specs.declared.Fault.{Fault}
+use Rattle.board.specs.declared.Condition.{Condition}
 use Rattle.image.specs.Bytes.{byteAt}
 use Rattle.image.specs.Image.{lineCount}
 use Rattle.image.specs.Refusals.{Accepted}
@@ -18,11 +18,11 @@ abbrev pub Fives : List ℕ → Type 0
 Fives row = (p : ℕ) → getD row p 0 < 5
 
 -- what the gate whose record stands at place p reads on its pins as line i, from the lines below
-abbrev pub readAt : Fault → List ℕ → ℕ → ℕ → List ℕ → List ℕ
+abbrev pub readAt : Condition → List ℕ → ℕ → ℕ → List ℕ → List ℕ
 readAt φ s p i below = heldPins hold5 φ i (pinsAt s p below)
 
 -- what a gate's value asks: a record at place p with no more pins than its kind has, a stuck value of 0 or 1, and five values below
-pub record Gated (s : List ℕ) (p : ℕ) (φ : Fault) (below : List ℕ) : Type 0 where
+pub record Gated (s : List ℕ) (p : ℕ) (φ : Condition) (below : List ℕ) : Type 0 where
   pub low : p < 2 ^ 63 + 2 ^ 32
   pub kind : byteAt s p ≤ lastKind
   pub few : byteAt s (p + 1) ≤ most (byteAt s p)
@@ -30,14 +30,14 @@ pub record Gated (s : List ℕ) (p : ℕ) (φ : Fault) (below : List ℕ) : Type
   pub fives : Fives below
 
 -- what the value of line i asks: an accepted image's line, a stuck value of 0 or 1, and five values below
-pub record Lined (s : List ℕ) (i : ℕ) (φ : Fault) (below : List ℕ) : Type 0 where
+pub record Lined (s : List ℕ) (i : ℕ) (φ : Condition) (below : List ℕ) : Type 0 where
   pub accepted : Accepted s
   pub inside : i < lineCount s
   pub held : stuck φ < 2
   pub fives : Fives below
 
 -- what the filler asks: an accepted image, a stuck value of 0 or 1, and a row of one byte a line
-pub record Fillable (s : List ℕ) (φ : Fault) (row : List ℕ) : Type 0 where
+pub record Fillable (s : List ℕ) (φ : Condition) (row : List ℕ) : Type 0 where
   pub accepted : Accepted s
   pub held : stuck φ < 2
   pub long : length row ≡ lineCount s

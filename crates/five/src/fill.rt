@@ -1,7 +1,7 @@
 // The line by line filler.
 use crate::line::line_value;
 use crate::table::the_table;
-use board::Fault;
+use board::Condition;
 ghost use mathlib.Core.Path.{_≡_};
 ghost use lib.ListN.{length};
 ghost use Rattle.board.specs.Row.{row as rowOf};
@@ -10,7 +10,7 @@ ghost use Rattle.image.specs.Image.{boardOf};
 ghost use Rattle.five.specs.Inner.{Fillable};
 
 // Fills a row with the five values of a fault under a partial pattern.
-pub fn fill(img: &[u8], named: u64, values: u64, fault: Fault, row: &mut [u8])
+pub fn fill(img: &[u8], named: u64, values: u64, fault: Condition, row: &mut [u8])
     requires { ⌜ Fillable (now img) fault (now row) ⌝ }
     ensures { λ _. ⌜ now (row .exit) ≡ rowOf (five fault (partial named values)) (boardOf (now (img .entry))) (length (now (row .entry))) ⌝ }
 {

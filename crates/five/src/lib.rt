@@ -5,7 +5,7 @@ pub mod line;
 pub mod partial;
 pub mod table;
 
-use board::Fault;
+use board::Condition;
 use count::count_driven;
 use fill::fill;
 use image::Checked;
@@ -36,7 +36,7 @@ pub fn five(img: &[u8], named: u64, values: u64, line: usize, stuck: u8, row: &m
             if row.len() != lines {
                 return Driven::Refused(Refusal::Lent);
             }
-            fill(img, named, values, Fault::Line(line, stuck), row);
+            fill(img, named, values, Condition::Line(line, stuck), row);
             Driven::Count(count_driven(img, row))
         }
     }

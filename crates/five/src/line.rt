@@ -1,7 +1,7 @@
 // The five value of one line: the fault is a value, so that there is one way to work a line out.
 use crate::table::entry;
 use crate::table::pick;
-use board::Fault;
+use board::Condition;
 use board::stuck_line;
 use board::stuck_pin;
 use image::numbers::byte;
@@ -39,7 +39,7 @@ fn held(s: usize, v: usize) -> usize
 }
 
 // What line i gives, of a value that it would have: the value, held where the fault holds the line.
-fn held_line(fault: Fault, i: usize, v: usize) -> u8
+fn held_line(fault: Condition, i: usize, v: usize) -> u8
     requires { ⌜ (stuckAt fault < 2) × (v < 5) ⌝ }
     ensures { λ r. ⌜ r ≡ heldLine hold5 fault i v ⌝ }
 {
@@ -64,7 +64,7 @@ fn pin_value(
     j: usize,
     filler: usize,
     i: usize,
-    fault: Fault,
+    fault: Condition,
     below: &[u8],
 ) -> usize
     requires { ⌜ Gated (now img) at fault (now below) × (j < 4) × (filler < 5) ⌝ }
@@ -87,7 +87,7 @@ fn section_value(
     at: usize,
     section: usize,
     i: usize,
-    fault: Fault,
+    fault: Condition,
     below: &[u8],
 ) -> usize
     requires { ⌜ Ruled (now table) × Gated (now img) at fault (now below) × (section < 3) ⌝ }
@@ -108,7 +108,7 @@ const WAYS: [u8; 8] = [0, 1, 0, 1, 2, 3, 4, 5];
 const OPPOSITE: [u8; 5] = [1, 0, 2, 4, 3];
 
 // The value of line i's gate, whose record stands at a place.
-fn gate_value(table: &[u8], img: &[u8], at: usize, i: usize, fault: Fault, below: &[u8]) -> usize
+fn gate_value(table: &[u8], img: &[u8], at: usize, i: usize, fault: Condition, below: &[u8]) -> usize
     requires { ⌜ Ruled (now table) × Gated (now img) at fault (now below) × (0 < byteAt (now img) at) ⌝ }
     ensures { λ r. ⌜ (r ≡ gate5 (byteAt (now (img .entry)) at) (readAt fault (now (img .entry)) at i (now (below .entry)))) × (r < 5) ⌝ }
 {
@@ -125,7 +125,7 @@ pub fn line_value(
     named: u64,
     values: u64,
     i: usize,
-    fault: Fault,
+    fault: Condition,
     below: &[u8],
 ) -> u8
     requires { ⌜ Ruled (now table) × Lined (now img) i fault (now below) ⌝ }

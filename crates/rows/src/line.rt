@@ -1,5 +1,5 @@
 // The value of one line, good or faulty: the fault is a value, so that there is one way to work a line out.
-use board::Fault;
+use board::Condition;
 use board::stuck_line;
 use board::stuck_pin;
 use image::numbers::byte;
@@ -41,7 +41,7 @@ fn pin_value(
     at: usize,
     j: usize,
     line: usize,
-    fault: Fault,
+    fault: Condition,
     before: &[u8],
     part: &[u8],
 ) -> usize
@@ -56,7 +56,7 @@ fn pin_value(
 }
 
 // How many of the pins of the record at a place read 1.
-fn ones_read(img: &[u8], at: usize, line: usize, fault: Fault, before: &[u8], part: &[u8]) -> usize
+fn ones_read(img: &[u8], at: usize, line: usize, fault: Condition, before: &[u8], part: &[u8]) -> usize
     requires { ⌜ (at < 2 ^ 63 + 2 ^ 32) × (stuckAt fault < 2) ⌝ }
     ensures { λ r. ⌜ r ≡ ones (heldPins (λ s v. s) fault line (pinsAt (now (img .entry)) at (now (before .entry) ++ now (part .entry)))) ⌝ }
 {
@@ -76,7 +76,7 @@ pub fn line_value(
     at: usize,
     line: usize,
     x: u64,
-    fault: Fault,
+    fault: Condition,
     before: &[u8],
     part: &[u8],
 ) -> u8

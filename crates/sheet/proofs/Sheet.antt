@@ -13,7 +13,7 @@ use Rattle.board.specs.Reach.{reach, meets, touched}
 use Rattle.board.specs.Test.{differs, shows, first, find}
 use Rattle.board.specs.Book.{renewed}
 use Rattle.board.proofs.Lists.{same-is}
-use Rattle.board.specs.declared.Fault.the-variants.{Line}
+use Rattle.board.specs.declared.Condition.the-variants.{Line}
 use Rattle.image.specs.Image.{lineCount, boardOf}
 use Rattle.image.specs.Refusals.{badField, firstBad, firstBadOutput, imageRefusals, firstRefusal, answer}
 use Rattle.image.specs.Calls.{lineRefusals, faultRefusals, unlessRefused}

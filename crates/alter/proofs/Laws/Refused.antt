@@ -10,7 +10,7 @@ use lib.ListN.{getD}
 use borrow.Author.Tests.{eqb-true, eqb-false, ne-eqb, not-false}
 use Rattle.board.specs.Board.{Record, leading, inputs}
 use Rattle.board.specs.Test.{first}
-use Rattle.board.specs.Fine.{Accepts}
+use Rattle.board.specs.Fine.{Takes}
 use Rattle.board.proofs.Lists.{way, clash, or-false, somewhere-at}
 use Rattle.board.proofs.Search.{first-is-smallest}
 use Rattle.image.specs.Bytes.{byteAt}
@@ -68,7 +68,7 @@ fit s line new e =
 
 module _ (s : List ℕ) (line : ℕ) (new : List ℕ) (inside : line < lineCount s) (fits : Fit s line new) where
   -- the board takes the record
-  pub takes : Accepts (boardOf s) line (recordAt new 0)
+  pub takes : Takes (boardOf s) line (recordAt new 0)
   takes = record {
     inside = rw (line-count s) inside;
     gate =

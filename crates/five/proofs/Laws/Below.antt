@@ -14,8 +14,8 @@ use Rattle.board.specs.Row.{step, row}
 use Rattle.board.specs.Gate.{gate, bitOf, heldPins, heldLine}
 use Rattle.board.specs.Inner.{heldAt}
 use Rattle.board.specs.Five.{goodHalf, faultyHalf, pair, fillings, agreed, everyFilling, gate5, hold5, five, partial}
-use Rattle.board.specs.declared.Fault.{Fault}
-use Rattle.board.specs.declared.Fault.the-variants.{Sound, Line, Pin}
+use Rattle.board.specs.declared.Condition.{Condition}
+use Rattle.board.specs.declared.Condition.the-variants.{Sound, Line, Pin}
 use Rattle.board.proofs.Lists.{way, build-length, build-at}
 use Rattle.five.specs.Inner.{Fives}
 use Rattle.five.proofs.Laws.Table.{getD-below}
@@ -48,17 +48,17 @@ gate-below k vs = filling-below _ (λ gs hs. pair-below (gate k gs) (gate k hs))
 pub partial-below : (named values i : ℕ) → partial named values i < 5
 partial-below named values i = cond-below (eqb (bitOf named i) 1) (lt-trans (mod-lt (values / 2 ^ i) (lit< tt)) (lit< tt)) (lit< tt)
 
-line-below : (φ : Fault) (i v : ℕ) → v < 5 → heldLine hold5 φ i v < 5
+line-below : (φ : Condition) (i v : ℕ) → v < 5 → heldLine hold5 φ i v < 5
 line-below Sound i v l = l
 line-below (Line m s) i v l = cond-below (eqb i m) (hold-below s v) l
 line-below (Pin m p s) i v l = l
 
-rule-below : (φ : Fault) (named values i k : ℕ) (vs : List ℕ) → five φ (partial named values) i k vs < 5
+rule-below : (φ : Condition) (named values i k : ℕ) (vs : List ℕ) → five φ (partial named values) i k vs < 5
 rule-below φ named values i k vs =
     line-below φ i _ (cond-below (eqb k 0) (partial-below named values i) (gate-below k (heldPins hold5 φ i vs)))
 
 -- a row of the first n lines
-pub row-fives : (φ : Fault) (named values : ℕ) (b : Board) (n : ℕ) → Fives (row (five φ (partial named values)) b n)
+pub row-fives : (φ : Condition) (named values : ℕ) (b : Board) (n : ℕ) → Fives (row (five φ (partial named values)) b n)
 row-fives φ named values b n p =
     let f = step (five φ (partial named values)) b in
     ⊎-elim

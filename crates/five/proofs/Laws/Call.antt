@@ -8,7 +8,7 @@ use Prim.Native.Nat.{ℕ, _<_}
 use native.Mathlib.Nat.{not-suc-le-zero}
 use lib.Dec.{lit<}
 use Rattle.board.specs.Board.{inputs}
-use Rattle.board.specs.declared.Fault.the-variants.{Line}
+use Rattle.board.specs.declared.Condition.the-variants.{Line}
 use Rattle.image.specs.Image.{boardOf}
 use Rattle.image.specs.Refusals.{firstRefusal, Accepted}
 use Rattle.image.specs.Calls.{faultRefusals, badRow, unlessRefused}

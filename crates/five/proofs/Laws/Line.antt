@@ -16,7 +16,7 @@ use Rattle.board.specs.Gate.{heldLine}
 use Rattle.board.specs.Inner.{stuckPin, heldAt}
 use Rattle.board.specs.Fine.{most, mostPins, Stands}
 use Rattle.board.specs.Five.{gate5, hold5, five}
-use Rattle.board.specs.declared.Fault.{Fault}
+use Rattle.board.specs.declared.Condition.{Condition}
 use Rattle.board.proofs.Lists.{build-length}
 use Rattle.image.specs.Bytes.{byteAt, wordAt}
 use Rattle.image.specs.Image.{lineCount, firstRecord, recordPlace, recordAt, boardOf}
@@ -29,7 +29,7 @@ use Rattle.five.specs.Inner.{readAt, Gated}
 use Rattle.five.proofs.Laws.Lists.{any-default}
 use Rattle.five.proofs.Laws.Table.{getD-below}
 
-module _ (φ : Fault) (s : List ℕ) (p i : ℕ) (below : List ℕ) where
+module _ (φ : Condition) (s : List ℕ) (p i : ℕ) (below : List ℕ) where
   read-length : length (readAt φ s p i below) ≡ byteAt s (p + 1)
   read-length = held-pins-length s p below hold5 φ i
 
@@ -58,7 +58,7 @@ record-good s ok i l =
     (stands .kind, rw count at (stands .few))
 
 -- a line's value, as an input and as a gate
-module _ (φ : Fault) (start : ℕ → ℕ) (s : List ℕ) (i : ℕ) (inside : i < lineCount s) (below : List ℕ) where
+module _ (φ : Condition) (start : ℕ → ℕ) (s : List ℕ) (i : ℕ) (inside : i < lineCount s) (below : List ℕ) where
   pub line-input : byteAt s (recordPlace s i) ≡ 0 → heldLine hold5 φ i (start i) ≡ step (five φ start) (boardOf s) i below
   unfolding lineAt
   line-input e = rw (eq-eqb (byteAt s (recordPlace s i)) 0 e) at (line-step (five φ start) s i below inside)

@@ -15,8 +15,8 @@ use Rattle.board.specs.Row.{value}
 use Rattle.board.specs.Gate.{bitOf, good, faulty, stuck}
 use Rattle.board.specs.Test.{differs, shows}
 use Rattle.board.specs.Five.{goodHalf, faultyHalf, five, partial, Completes}
-use Rattle.board.specs.declared.Fault.{Fault}
-use Rattle.board.specs.declared.Fault.the-variants.{Line}
+use Rattle.board.specs.declared.Condition.{Condition}
+use Rattle.board.specs.declared.Condition.the-variants.{Line}
 use Rattle.board.proofs.Lists.{way, or-true, or-right, where-passes, passes-somewhere}
 use Rattle.board.proofs.Row.{row-at}
 use Rattle.board.proofs.Fine.{fine-low}
@@ -47,7 +47,7 @@ driven-apart v e =
     (or-true (eqb v 3) (eqb v 4) e)
 
 -- the row of any fault whose stuck value is 0 or 1, a line's or a pin's
-module _ (s : List ℕ) (ok : Accepted s) (φ : Fault) (held : stuck φ < 2) (named values : ℕ) where
+module _ (s : List ℕ) (ok : Accepted s) (φ : Condition) (held : stuck φ < 2) (named values : ℕ) where
   -- what stands in the row is the line's five value
   row-says : (i : ℕ) → i < lineCount s → getD (fiveRow s φ named values) i 0 ≡ value (five φ (partial named values)) (boardOf s) i
   unfolding fiveRow

@@ -8,7 +8,7 @@ use lib.ListN.{length}
 use Rattle.board.specs.Board.{inputs}
 use Rattle.board.specs.Row.{row as rowOf}
 use Rattle.board.specs.Five.{five, partial}
-use Rattle.board.specs.declared.Fault.the-variants.{Line}
+use Rattle.board.specs.declared.Condition.the-variants.{Line}
 use Rattle.image.specs.Image.{lineCount, outputCount, boardOf}
 use Rattle.image.specs.Refusals.{firstRefusal}
 use Rattle.image.specs.Calls.{faultRefusals}
