@@ -4,10 +4,10 @@ pub mod put;
 pub mod renew;
 
 use find::Counted;
-use find::search::Entry;
 use image::Checked;
 use image::Refusal;
 use image::asked::check_line;
+use image::limits::Entry;
 use put::is_bad_alteration;
 use renew::bring_up;
 ghost use Rattle.alter.specs.Alter.{AlterOwes};

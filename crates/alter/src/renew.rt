@@ -2,7 +2,7 @@
 use crate::marks::mark_met;
 use crate::put::put_record;
 use find::entries::renew;
-use find::search::Entry;
+use image::limits::Entry;
 use rows::fill::blank_row;
 ghost use mathlib.Core.Path.{_≡_};
 ghost use lib.ListN.{length};

@@ -2,7 +2,7 @@
 mod answers;
 mod part;
 
-use find::search::Entry;
+use image::limits::Entry;
 ghost use Rattle.image.specs.Check.{CheckOwes, says};
 ghost use Rattle.image.specs.declared.Checked.{Checked};
 ghost use Rattle.rows.specs.Rows.{RowsOwes, filledSays};

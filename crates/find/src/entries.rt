@@ -1,10 +1,10 @@
 // The book's entries, line by line and stuck value by stuck value: those of marked lines are worked out, and for a fresh book every line is.
 use crate::search::Answer;
-use crate::search::Entry;
-use crate::search::NONE;
 use crate::search::smallest;
 use board::Condition;
+use image::limits::Entry;
 use image::limits::MOST_LINES;
+use image::limits::NONE;
 use image::numbers::byte;
 ghost use mathlib.Core.Path.{_≡_};
 ghost use mathlib.Core.Bool.{cond};

@@ -1,5 +1,6 @@
 // The smallest pattern that shows a fault.
 use board::Condition;
+use image::limits::Entry;
 use rows::fill::blank_row;
 use rows::outputs::shows_in;
 ghost use mathlib.Core.Path.{_≡_};
@@ -10,11 +11,6 @@ ghost use Rattle.board.specs.Test.{find};
 ghost use Rattle.image.specs.Image.{boardOf};
 ghost use Rattle.rows.specs.Inner.{Tryable};
 ghost use Rattle.find.specs.Inner.{answered, Askable};
-
-// A number in a book, and the one that stands for none.
-pub type Entry = u32;
-
-pub const NONE: Entry = 4294967295;
 
 // What a search finds.
 pub enum Answer {

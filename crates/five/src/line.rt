@@ -108,7 +108,14 @@ const WAYS: [u8; 8] = [0, 1, 0, 1, 2, 3, 4, 5];
 const OPPOSITE: [u8; 5] = [1, 0, 2, 4, 3];
 
 // The value of line i's gate, whose record stands at a place.
-fn gate_value(table: &[u8], img: &[u8], at: usize, i: usize, fault: Condition, below: &[u8]) -> usize
+fn gate_value(
+    table: &[u8],
+    img: &[u8],
+    at: usize,
+    i: usize,
+    fault: Condition,
+    below: &[u8],
+) -> usize
     requires { ⌜ Ruled (now table) × Gated (now img) at fault (now below) × (0 < byteAt (now img) at) ⌝ }
     ensures { λ r. ⌜ (r ≡ gate5 (byteAt (now (img .entry)) at) (readAt fault (now (img .entry)) at i (now (below .entry)))) × (r < 5) ⌝ }
 {

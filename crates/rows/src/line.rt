@@ -56,7 +56,14 @@ fn pin_value(
 }
 
 // How many of the pins of the record at a place read 1.
-fn ones_read(img: &[u8], at: usize, line: usize, fault: Condition, before: &[u8], part: &[u8]) -> usize
+fn ones_read(
+    img: &[u8],
+    at: usize,
+    line: usize,
+    fault: Condition,
+    before: &[u8],
+    part: &[u8],
+) -> usize
     requires { ⌜ (at < 2 ^ 63 + 2 ^ 32) × (stuckAt fault < 2) ⌝ }
     ensures { λ r. ⌜ r ≡ ones (heldPins (λ s v. s) fault line (pinsAt (now (img .entry)) at (now (before .entry) ++ now (part .entry)))) ⌝ }
 {
