@@ -41,14 +41,14 @@ fn pin_value(
     at: usize,
     j: usize,
     line: usize,
-    fault: Condition,
+    condition: Condition,
     before: &[u8],
     part: &[u8],
 ) -> usize
-    requires { ⌜ (at < 2 ^ 63 + 2 ^ 32) × (j < 256) × (j < byteAt (now img) (at + 1)) × (stuckAt fault < 2) ⌝ }
-    ensures { λ r. ⌜ (r ≡ getD (heldPins (λ s v. s) fault line (pinsAt (now (img .entry)) at (now (before .entry) ++ now (part .entry)))) j 0) × (r < 256) ⌝ }
+    requires { ⌜ (at < 2 ^ 63 + 2 ^ 32) × (j < 256) × (j < byteAt (now img) (at + 1)) × (stuckAt condition < 2) ⌝ }
+    ensures { λ r. ⌜ (r ≡ getD (heldPins (λ s v. s) condition line (pinsAt (now (img .entry)) at (now (before .entry) ++ now (part .entry)))) j 0) × (r < 256) ⌝ }
 {
-    let held = stuck_pin(fault, line, j) as usize;
+    let held = stuck_pin(condition, line, j) as usize;
     if held < 2 {
         return held;
     }
@@ -60,18 +60,18 @@ fn ones_read(
     img: &[u8],
     at: usize,
     line: usize,
-    fault: Condition,
+    condition: Condition,
     before: &[u8],
     part: &[u8],
 ) -> usize
-    requires { ⌜ (at < 2 ^ 63 + 2 ^ 32) × (stuckAt fault < 2) ⌝ }
-    ensures { λ r. ⌜ r ≡ ones (heldPins (λ s v. s) fault line (pinsAt (now (img .entry)) at (now (before .entry) ++ now (part .entry)))) ⌝ }
+    requires { ⌜ (at < 2 ^ 63 + 2 ^ 32) × (stuckAt condition < 2) ⌝ }
+    ensures { λ r. ⌜ r ≡ ones (heldPins (λ s v. s) condition line (pinsAt (now (img .entry)) at (now (before .entry) ++ now (part .entry)))) ⌝ }
 {
     let count = byte(img, at + 1);
     let mut sum = 0;
     let mut j = 0;
     while j < count {
-        sum += pin_value(img, at, j, line, fault, before, part);
+        sum += pin_value(img, at, j, line, condition, before, part);
         j += 1;
     }
     sum
@@ -83,14 +83,14 @@ pub fn line_value(
     at: usize,
     line: usize,
     x: u64,
-    fault: Condition,
+    condition: Condition,
     before: &[u8],
     part: &[u8],
 ) -> u8
-    requires { ⌜ (at < 2 ^ 63 + 2 ^ 32) × (stuckAt fault < 2) ⌝ }
-    ensures { λ r. ⌜ r ≡ lineAt (faulty fault x) (now (img .entry)) at line (now (before .entry) ++ now (part .entry)) ⌝ }
+    requires { ⌜ (at < 2 ^ 63 + 2 ^ 32) × (stuckAt condition < 2) ⌝ }
+    ensures { λ r. ⌜ r ≡ lineAt (faulty condition x) (now (img .entry)) at line (now (before .entry) ++ now (part .entry)) ⌝ }
 {
-    let held = stuck_line(fault, line);
+    let held = stuck_line(condition, line);
     if held < 2 {
         return held;
     }
@@ -101,6 +101,6 @@ pub fn line_value(
     gate_value(
         kind,
         byte(img, at + 1),
-        ones_read(img, at, line, fault, before, part),
+        ones_read(img, at, line, condition, before, part),
     )
 }

@@ -1,6 +1,6 @@
 -- What a promise settles: a refusal is told by its numbers and no answer has one's, so any two outcomes that a promise allows are equal.
 use mathlib.Core.Path.{_≡_, refl, sym, ap, _∙_}
-use mathlib.Core.Option.{Option, none, some}
+use mathlib.Core.Option.{none, some}
 use mathlib.Core.List.{List, [], _∷_}
 use Prim.Native.Nat.{ℕ, _<_}
 use lib.Dec.{lit<}

@@ -1,0 +1,19 @@
+-- `rows::said::judged` meets its contract, case by case.
+use borrow.Author.Needs.{needs}
+use Rattle.rows.proofs.said.judged.Statement.{statement}
+use Rattle.rows.proofs.said.judged.Tie as tie
+
+returns : tie.Need-returns
+returns c = rw (c .before .enum-told .given .1) (c .with-one .ensures)
+
+returns-2 : tie.Need-returns-2
+returns-2 c = rw (c .before .enum-told2 .given .1) (c .with-one2 .ensures)
+
+returns-3 : tie.Need-returns-3
+returns-3 c = rw (c .before .before .j .given .1) (c .refused .ensures)
+
+pub judged-spec : {M : Type 1} → statement M
+judged-spec =
+    tie.close
+    (tie.spec (λ c. search needs) (λ c κs. search needs) (λ c. search needs) (λ c κs. search needs) (λ c. search needs) (λ c κs. search needs) returns
+    returns-2 returns-3)
