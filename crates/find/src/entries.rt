@@ -1,21 +1,52 @@
-// The book's entries, line by line and stuck value by stuck value: those of marked lines are worked out, and for a fresh book every line is.
+// A book's entries: those of marked lines are worked out, and for a fresh book every line is marked.
 use crate::search::Answer;
 use crate::search::smallest;
 use board::Condition;
+use board::site_of;
+use image::Checked;
+use image::Counts;
+use image::Refusal;
+use image::asked::refused_if;
 use image::limits::Entry;
 use image::limits::MOST_LINES;
 use image::limits::NONE;
 use image::numbers::byte;
 ghost use mathlib.Core.Path.{_≡_};
+ghost use mathlib.Core.Option.{Option};
 ghost use mathlib.Core.Bool.{cond};
-ghost use Prim.Native.Nat.{ℕ, _<_};
-ghost use lib.ListN.{getD};
+ghost use mathlib.Core.List.{List};
+ghost use Prim.Native.Nat.{ℕ, _*_, _<_};
+ghost use lib.ListN.{length, getD};
 ghost use Rattle.board.specs.Limits.{mostLines};
 ghost use Rattle.board.specs.Test.{find as smallestOf};
 ghost use Rattle.board.specs.Book.{lineFault, entry, found};
-ghost use Rattle.image.specs.Image.{boardOf};
-ghost use Rattle.find.specs.Inner.{answered, Askable, Bookable, reworked};
-ghost use Rattle.find.specs.Book.{bookOf};
+ghost use Rattle.image.specs.Image.{lineCount, boardOf};
+ghost use Rattle.image.specs.Calls.{_then_};
+ghost use Rattle.image.specs.Inner.{Known, OnBoard, Past};
+ghost use Rattle.image.specs.declared.Refusal.{Refusal as RefusalOf};
+ghost use Rattle.find.specs.Inner.{answered, Renewable, Renewed};
+ghost use Rattle.find.specs.Book.{badBook, bookOf};
+
+// Those that were tested, then 9 for a book of so many numbers.
+pub fn then_book(tested: Checked, numbers: usize) -> Checked
+    ensures { λ r. ⌜ ((rs : List (Option RefusalOf)) (s : List ℕ) → Past rs s tested → Past (rs then badBook s numbers) s r) ⌝ }
+{
+    match tested {
+        Checked::Refused(r) => Checked::Refused(r),
+        Checked::Good(counts) => refused_if(
+            (numbers % 2 != 0) | (numbers / 2 != counts.lines),
+            Refusal::Lent,
+            counts,
+        ),
+    }
+}
+
+// The fault of entry k: entry 2 x line + stuck value.
+fn fault_at(k: usize) -> Condition
+    ensures { λ r. ⌜ r ≡ lineFault k ⌝ }
+{
+    Condition::Line(k / 2, (k % 2) as u8)
+}
 
 // The number in a book for an answer.
 pub fn entry_of(a: Answer) -> Entry
@@ -27,44 +58,28 @@ pub fn entry_of(a: Answer) -> Entry
     }
 }
 
-// Entry k: searched where its line is marked, and its old number where it is not.
-fn renew_entry(
-    img: &[u8],
-    lines: usize,
-    inputs: usize,
-    outputs: usize,
-    k: usize,
-    marked: bool,
-    old: Entry,
-) -> Entry
-    requires { ⌜ Askable (now img) lines inputs outputs (lineFault k) ⌝ }
-    ensures { λ r. ⌜ r ≡ cond marked (entry (smallestOf (boardOf (now (img .entry))) (lineFault k))) old ⌝ }
+// A fault's entry: searched where its line is marked, and its old number where it is not.
+fn renew_entry(img: &[u8], counts: Counts, condition: Condition, marked: bool, old: Entry) -> Entry
+    requires { ⌜ Known (now img) counts × OnBoard (now img) condition ⌝ }
+    ensures { λ r. ⌜ r ≡ cond marked (entry (smallestOf (boardOf (now (img .entry))) condition)) old ⌝ }
 {
     if marked {
-        let fault = Condition::Line(k / 2, (k % 2) as u8);
-        return entry_of(smallest(img, lines, inputs, outputs, fault));
+        return entry_of(smallest(img, counts, condition));
     }
     old
 }
 
-// Works out the entries of the lines that are marked in one of two rows, keeps the others, and gives how many are then not none.
-pub fn renew(
-    img: &[u8],
-    lines: usize,
-    inputs: usize,
-    outputs: usize,
-    before: &[u8],
-    after: &[u8],
-    book: &mut [Entry],
-) -> usize
-    requires { ⌜ Bookable (now img) lines inputs outputs (now book) ⌝ }
-    ensures { λ r. ⌜ (now (book .exit) ≡ reworked (boardOf (now (img .entry))) (now (before .entry)) (now (after .entry)) (now (book .entry))) × (r ≡ found (reworked (boardOf (now (img .entry))) (now (before .entry)) (now (after .entry)) (now (book .entry)))) ⌝ }
+// Works out the entries of the lines that are marked in a row, keeps the others, and gives how many are then not none.
+pub fn renew(img: &[u8], counts: Counts, marks: &[u8], book: &mut [Entry]) -> usize
+    requires { ⌜ Renewable lineFault (now img) counts (now book) ⌝ }
+    ensures { λ r. ⌜ Renewed lineFault (now (img .entry)) (now (marks .entry)) (now (book .entry)) r (now (book .exit)) ⌝ }
 {
     let mut count = 0;
     let mut k = 0;
     while k < book.len() {
-        let marked = (0 < byte(before, k / 2)) | (0 < byte(after, k / 2));
-        let e = renew_entry(img, lines, inputs, outputs, k, marked, book[k]);
+        let fault = fault_at(k);
+        let marked = 0 < byte(marks, site_of(fault));
+        let e = renew_entry(img, counts, fault, marked, book[k]);
         book[k] = e;
         count += (e != NONE) as usize;
         k += 1;
@@ -80,16 +95,10 @@ fn every_line() -> [u8; MOST_LINES]
 }
 
 // Works out every entry, and gives how many are not none.
-pub fn fill_book(
-    img: &[u8],
-    lines: usize,
-    inputs: usize,
-    outputs: usize,
-    book: &mut [Entry],
-) -> usize
-    requires { ⌜ Bookable (now img) lines inputs outputs (now book) ⌝ }
+pub fn fill_book(img: &[u8], counts: Counts, book: &mut [Entry]) -> usize
+    requires { ⌜ Known (now img) counts × (length (now book) ≡ 2 * lineCount (now img)) ⌝ }
     ensures { λ r. ⌜ (now (book .exit) ≡ bookOf (now (img .entry))) × (r ≡ found (bookOf (now (img .entry)))) ⌝ }
 {
     let every = every_line();
-    renew(img, lines, inputs, outputs, &every, &every, book)
+    renew(img, counts, &every, book)
 }

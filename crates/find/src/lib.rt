@@ -1,18 +1,23 @@
 // The smallest pattern that shows a fault, and the book of them all: Find and Book.
 pub mod entries;
+pub mod said;
 pub mod search;
 
-use board::Condition;
+use board::Fault;
+use board::having;
 use entries::fill_book;
+use entries::then_book;
 use image::Checked;
 use image::Refusal;
 use image::asked::check_fault;
-use image::check;
+use image::asked::check_image;
 use image::limits::Entry;
 use search::Answer;
 use search::smallest;
-ghost use Rattle.find.specs.Find.{FindOwes};
-ghost use Rattle.find.specs.Book.{BookOwes};
+ghost use mathlib.Core.List.{[], _∷_};
+ghost use Rattle.image.specs.Promise.{Owes};
+ghost use Rattle.find.specs.Find.{foundSays, findPromise};
+ghost use Rattle.find.specs.Book.{countedSays, bookPromise};
 
 pub enum Found {
     Pattern(u64),
@@ -26,16 +31,12 @@ pub enum Counted {
 }
 
 // Find: the smallest pattern that shows the fault, or nothing where no pattern does.
-pub fn find(img: &[u8], line: usize, stuck: u8) -> Found
-    ensures { λ r. ⌜ FindOwes (now (img .entry)) line stuck r ⌝ }
+pub fn find(img: &[u8], fault: Fault) -> Found
+    ensures { λ r. ⌜ Owes (findPromise (now (img .entry)) fault) [] (foundSays r) ⌝ }
 {
-    match check_fault(img, line, stuck) {
+    match check_fault(img, fault) {
         Checked::Refused(r) => Found::Refused(r),
-        Checked::Good {
-            lines,
-            inputs,
-            outputs,
-        } => match smallest(img, lines, inputs, outputs, Condition::Line(line, stuck)) {
+        Checked::Good(counts) => match smallest(img, counts, having(fault)) {
             Answer::At(p) => Found::Pattern(p as u64),
             Answer::Nothing => Found::Nothing,
         },
@@ -44,19 +45,10 @@ pub fn find(img: &[u8], line: usize, stuck: u8) -> Found
 
 // Book: fills entry 2 x line + stuck value with that pattern, or NONE, and counts the entries that are not none.
 pub fn book(img: &[u8], entries: &mut [Entry]) -> Counted
-    ensures { λ r. ⌜ BookOwes (now (img .entry)) (now (entries .entry)) r (now (entries .exit)) ⌝ }
+    ensures { λ r. ⌜ Owes (bookPromise (now (img .entry)) (now (entries .entry))) (now (entries .exit) ∷ []) (countedSays r) ⌝ }
 {
-    match check(img) {
+    match then_book(check_image(img), entries.len()) {
         Checked::Refused(r) => Counted::Refused(r),
-        Checked::Good {
-            lines,
-            inputs,
-            outputs,
-        } => {
-            if entries.len() != 2 * lines {
-                return Counted::Refused(Refusal::Lent);
-            }
-            Counted::Entries(fill_book(img, lines, inputs, outputs, entries))
-        }
+        Checked::Good(counts) => Counted::Entries(fill_book(img, counts, entries)),
     }
 }

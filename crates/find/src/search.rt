@@ -1,5 +1,6 @@
 // The smallest pattern that shows a fault.
 use board::Condition;
+use image::Counts;
 use image::limits::Entry;
 use rows::fill::blank_row;
 use rows::outputs::shows_in;
@@ -9,8 +10,9 @@ ghost use Rattle.board.specs.Limits.{mostInputs};
 ghost use Rattle.board.specs.Board.{inputs as inputsOf};
 ghost use Rattle.board.specs.Test.{find};
 ghost use Rattle.image.specs.Image.{boardOf};
+ghost use Rattle.image.specs.Inner.{Known, OnBoard};
 ghost use Rattle.rows.specs.Inner.{Tryable};
-ghost use Rattle.find.specs.Inner.{answered, Askable};
+ghost use Rattle.find.specs.Inner.{answered};
 
 // What a search finds.
 pub enum Answer {
@@ -29,19 +31,19 @@ fn patterns(inputs: usize) -> Entry
 // The first pattern from 0 up that shows the fault, with room for the two rows lent.
 fn first_shown(
     img: &[u8],
+    counts: Counts,
     limit: Entry,
-    outputs: usize,
-    fault: Condition,
+    condition: Condition,
     good: &mut [u8],
     faulty: &mut [u8],
 ) -> Answer
-    requires { ⌜ Tryable (now img) outputs fault (now good) (now faulty) ⌝ }
+    requires { ⌜ Tryable (now img) counts condition (now good) (now faulty) ⌝ }
     requires { ⌜ limit ≡ 2 ^ inputsOf (boardOf (now img)) ⌝ }
-    ensures { λ r. ⌜ answered r ≡ find (boardOf (now (img .entry))) fault ⌝ }
+    ensures { λ r. ⌜ answered r ≡ find (boardOf (now (img .entry))) condition ⌝ }
 {
     let mut x = 0;
     while x < limit {
-        if shows_in(img, outputs, x as u64, fault, good, faulty) {
+        if shows_in(img, counts, x as u64, condition, good, faulty) {
             return Answer::At(x);
         }
         x += 1;
@@ -50,18 +52,19 @@ fn first_shown(
 }
 
 // The smallest pattern that shows the fault, or nothing.
-pub fn smallest(img: &[u8], lines: usize, inputs: usize, outputs: usize, fault: Condition) -> Answer
-    requires { ⌜ Askable (now img) lines inputs outputs fault ⌝ }
-    ensures { λ r. ⌜ answered r ≡ find (boardOf (now (img .entry))) fault ⌝ }
+pub fn smallest(img: &[u8], counts: Counts, condition: Condition) -> Answer
+    requires { ⌜ Known (now img) counts × OnBoard (now img) condition ⌝ }
+    ensures { λ r. ⌜ answered r ≡ find (boardOf (now (img .entry))) condition ⌝ }
 {
+    let lines = counts.lines;
     let mut good = blank_row();
     let mut faulty = blank_row();
-    let limit = patterns(inputs);
+    let limit = patterns(counts.inputs);
     first_shown(
         img,
+        counts,
         limit,
-        outputs,
-        fault,
+        condition,
         &mut good[..lines],
         &mut faulty[..lines],
     )

@@ -11,37 +11,25 @@ use Rattle.find.proofs.search.first_shown.Statement.{statement}
 use Rattle.find.proofs.search.first_shown.Tie as tie
 
 abbrev Inv-loop : tie.InvT-loop
-Inv-loop img limit outputs fault good₀ faulty₀ x₀ good faulty x =
-    (x ≤ limit) × (length good ≡ length good₀) × (length faulty ≡ length faulty₀) × Below (shows (boardOf img) fault) x
+Inv-loop img counts limit condition good₀ faulty₀ x₀ good faulty x =
+    (x ≤ limit) × (length good ≡ length good₀) × (length faulty ≡ length faulty₀) × Below (shows (boardOf img) condition) x
 
 abbrev μ-loop : tie.MeasureT-loop
-μ-loop img limit outputs fault good₀ faulty₀ x₀ good faulty x = limit - x
+μ-loop img counts limit condition good₀ faulty₀ x₀ good faulty x = limit - x
 
 loop-holds : tie.Need-loop-holds Inv-loop μ-loop
 loop-holds c = (search needs, refl, refl, below-none _)
 
-cast-shows-in : tie.Need-cast-shows-in Inv-loop μ-loop
-cast-shows-in c = search needs
-
 shows-in-requires : tie.Need-shows-in-requires Inv-loop μ-loop
 shows-in-requires c κs =
     let at-loop = c .before .before .before in
-    let start = at-loop .before .before .before .before in
-    let asked = start .pre .0 in
+    let asked = at-loop .before .before .before .before .pre .0 in
     record {
-      ok = asked .ok;
-      outs = asked .outs;
-      inside = asked .inside;
-      held = asked .held;
+      known = asked .known;
+      on-board = asked .on-board;
       good-long = at-loop .loop .inv .1 ∙ asked .good-long;
       faulty-long = at-loop .loop .inv .2 ∙ asked .faulty-long;
     }
-
-same-length : tie.Need-same-length Inv-loop μ-loop
-same-length c = search needs
-
-same-length-2 : tie.Need-same-length-2 Inv-loop μ-loop
-same-length-2 c = search needs
 
 returns : tie.Need-returns Inv-loop μ-loop
 unfolding find
@@ -49,14 +37,8 @@ returns c =
     let tried = c .before .before .before .before .before in
     let at-loop = tried .before .before .before .before in
     let start = at-loop .before .before .before .before in
-    first-at (shows (boardOf (start .args .img .now)) (start .args .fault)) _ (at-loop .loop .x)
+    first-at (shows (boardOf (start .args .img .now)) (start .args .condition)) _ (at-loop .loop .x)
     (rw (start .pre .1) at (tried .before .before .before .loop-test .taken)) (sym (tried .shows-in .ensures) ∙ c .if1 .taken) (at-loop .loop .inv .3)
-
-add-x : tie.Need-add-x Inv-loop μ-loop
-add-x c = search needs
-
-loop-less : tie.Need-loop-less Inv-loop μ-loop
-loop-less c = search needs
 
 loop-again : tie.Need-loop-again Inv-loop μ-loop
 loop-again c =
@@ -68,34 +50,15 @@ loop-again c =
       below-more _ _ (at-loop .loop .inv .3) (sym (tried .shows-in .ensures) ∙ c .if1 .left),
     )
 
-same-length-3 : tie.Need-same-length-3 Inv-loop μ-loop
-same-length-3 c = search needs
-
-same-length-4 : tie.Need-same-length-4 Inv-loop μ-loop
-same-length-4 c = search needs
-
 returns-2 : tie.Need-returns-2 Inv-loop μ-loop
 unfolding find
 returns-2 c =
     let at-loop = c .before in
     let start = at-loop .before .before .before .before in
-    first-none (shows (boardOf (start .args .img .now)) (start .args .fault)) _ (at-loop .loop .x) (rw (start .pre .1) at (c .loop-test .left)) (at-loop .loop .inv .3)
+    first-none (shows (boardOf (start .args .img .now)) (start .args .condition)) _ (at-loop .loop .x) (rw (start .pre .1) at (c .loop-test .left)) (at-loop .loop .inv .3)
 
 pub first-shown-spec : {M : Type 1} → statement M
 first-shown-spec =
     tie.close
-    (tie.spec
-    Inv-loop
-    μ-loop
-    loop-holds
-    cast-shows-in
-    shows-in-requires
-    same-length
-    same-length-2
-    returns
-    add-x
-    loop-less
-    loop-again
-    same-length-3
-    same-length-4
-    returns-2)
+    (tie.spec Inv-loop μ-loop loop-holds (λ c. search needs) shows-in-requires (λ c. search needs) (λ c. search needs) returns (λ c. search needs)
+    (λ c. search needs) loop-again (λ c. search needs) (λ c. search needs) returns-2)

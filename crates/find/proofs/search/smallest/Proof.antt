@@ -9,59 +9,47 @@ use borrow.Author.Needs.{needs}
 use Rattle.find.proofs.search.smallest.Statement.{statement}
 use Rattle.find.proofs.search.smallest.Tie as tie
 
-few : (c : tie.Start) → c .args .lines ≤ mostLines
-few c = rw (c .pre .lines-are) (lines-few (c .args .img .now) (c .pre .ok))
-
-blank-row-requires : tie.Need-blank-row-requires
-blank-row-requires c κs = search needs
-
-blank-row-requires-2 : tie.Need-blank-row-requires-2
-blank-row-requires-2 c κs = search needs
+few : (c : tie.Start) → c .args .counts .lines ≤ mostLines
+few c = rw (c .pre .0 .lines-are) (lines-few (c .args .img .now) (c .pre .0 .ok))
 
 patterns-requires : tie.Need-patterns-requires
-patterns-requires c κs = let start = c .before .before .before in rw (start .pre .ins-are) (accepted-fine (start .args .img .now) (start .pre .ok) .inputs-few)
+patterns-requires c κs =
+    let start = c .before .before .before in
+    rw (start .pre .0 .ins-are) (accepted-fine (start .args .img .now) (start .pre .0 .ok) .inputs-few)
 
 array-borrow-prefix-good : tie.Need-array-borrow-prefix-good
 array-borrow-prefix-good c = omega (arith, c .before .before .blank-row .ensures, few (c .before .before .before .before))
 
 slice-aggregate-first-shown : tie.Need-slice-aggregate-first-shown
-slice-aggregate-first-shown c = let start = c .before .before .before .before .before in sym (front (c .before .before .before .blank-row .result) (start .args .lines) (c .before .before .before .blank-row .ensures) (few start))
+slice-aggregate-first-shown c =
+    let start = c .before .before .before .before .before in
+    sym (front (c .before .before .before .blank-row .result) (start .args .counts .lines) (c .before .before .before .blank-row .ensures) (few start))
 
 array-borrow-prefix-faulty : tie.Need-array-borrow-prefix-faulty
 array-borrow-prefix-faulty c = omega (arith, c .before .before .blank-row2 .ensures, few (c .before .before .before .before .before))
 
 slice-aggregate-first-shown-2 : tie.Need-slice-aggregate-first-shown-2
-slice-aggregate-first-shown-2 c = let start = c .before .before .before .before .before .before in sym (front (c .before .before .before .blank-row2 .result) (start .args .lines) (c .before .before .before .blank-row2 .ensures) (few start))
+slice-aggregate-first-shown-2 c =
+    let start = c .before .before .before .before .before .before in
+    sym (front (c .before .before .before .blank-row2 .result) (start .args .counts .lines) (c .before .before .before .blank-row2 .ensures) (few start))
 
 first-shown-requires : tie.Need-first-shown-requires
 first-shown-requires c κs =
     let start = c .before .before .before .before .before .before in
     let second = c .before .before .before in
-    let lines = start .pre .lines-are in (
+    let known = start .pre .0 in
+    let lines = start .args .counts .lines in (
       record {
-        ok = start .pre .ok;
-        outs = start .pre .outs-are;
-        inside = start .pre .inside;
-        held = start .pre .held;
-        good-long = front (second .before .blank-row .result) (start .args .lines) (second .before .blank-row .ensures) (few start) ∙ lines;
-        faulty-long = front (second .blank-row2 .result) (start .args .lines) (second .blank-row2 .ensures) (few start) ∙ lines;
+        known = known;
+        on-board = start .pre .1;
+        good-long = front (second .before .blank-row .result) lines (second .before .blank-row .ensures) (few start) ∙ known .lines-are;
+        faulty-long = front (second .blank-row2 .result) lines (second .blank-row2 .ensures) (few start) ∙ known .lines-are;
       },
-      c .before .before .patterns .ensures ∙ rw (start .pre .ins-are),
+      c .before .before .patterns .ensures ∙ rw (known .ins-are),
     )
-
-returns : tie.Need-returns
-returns c = search needs
 
 pub smallest-spec : {M : Type 1} → statement M
 smallest-spec =
     tie.close
-    (tie.spec
-    blank-row-requires
-    blank-row-requires-2
-    patterns-requires
-    array-borrow-prefix-good
-    slice-aggregate-first-shown
-    array-borrow-prefix-faulty
-    slice-aggregate-first-shown-2
-    first-shown-requires
-    returns)
+    (tie.spec (λ c κs. search needs) (λ c κs. search needs) patterns-requires array-borrow-prefix-good slice-aggregate-first-shown
+    array-borrow-prefix-faulty slice-aggregate-first-shown-2 first-shown-requires (λ c. search needs))
