@@ -3,6 +3,5 @@ pub mod Refused
 pub mod Board
 pub mod Meet
 pub mod Renew
-pub mod Calls
 pub mod Runs
 pub mod Edges

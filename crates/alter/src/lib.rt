@@ -4,32 +4,29 @@ pub mod put;
 pub mod renew;
 
 use find::Counted;
+use find::entries::then_book;
 use image::Checked;
 use image::Refusal;
 use image::asked::check_line;
 use image::limits::Entry;
-use put::is_bad_alteration;
+use put::is_unfit;
 use renew::bring_up;
-ghost use Rattle.alter.specs.Alter.{AlterOwes};
+ghost use mathlib.Core.List.{[], _∷_};
+ghost use Rattle.image.specs.Promise.{Owes};
+ghost use Rattle.find.specs.Book.{countedSays};
+ghost use Rattle.alter.specs.Alter.{alterPromise};
 
 // Alter: puts a new record in the image and brings the book up to date; gives how many entries are then not none, untouched ones included.
 pub fn alter(img: &mut [u8], book: &mut [Entry], line: usize, record: [u8; 10]) -> Counted
-    ensures { λ r. ⌜ AlterOwes (now (img .entry)) (now (book .entry)) line «record» r (now (img .exit)) (now (book .exit)) ⌝ }
+    ensures { λ r. ⌜ Owes (alterPromise (now (img .entry)) (now (book .entry)) line «record») (now (img .exit) ∷ now (book .exit) ∷ []) (countedSays r) ⌝ }
 {
-    match check_line(img, line) {
+    match then_book(check_line(img, line), book.len()) {
         Checked::Refused(r) => Counted::Refused(r),
-        Checked::Good {
-            lines,
-            inputs,
-            outputs,
-        } => {
-            if book.len() != 2 * lines {
-                return Counted::Refused(Refusal::Lent);
-            }
-            if is_bad_alteration(img, line, inputs, &record) {
+        Checked::Good(counts) => {
+            if is_unfit(img, line, counts.inputs, &record) {
                 return Counted::Refused(Refusal::Alteration);
             }
-            Counted::Entries(bring_up(img, lines, inputs, outputs, line, &record, book))
+            Counted::Entries(bring_up(img, counts, line, &record, book))
         }
     }
 }

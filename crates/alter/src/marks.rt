@@ -1,18 +1,22 @@
 // Which lines a line reaches, as a row of marks, and which lines reach an output that a line reaches.
+use image::Counts;
+use image::limits::MOST_LINES;
 use image::numbers::byte;
 use image::numbers::word;
-use image::outputs::output;
 use image::trailer::first_record;
 use rows::fill::blank_row;
+use rows::outputs::Pair;
+use rows::outputs::at_some_output;
 ghost use mathlib.Core.Path.{_≡_};
-ghost use Prim.Native.Nat.{_+_, _^_, _≤_, _<_};
-ghost use lib.ListN.{length};
+ghost use Prim.Native.Nat.{ℕ, _+_, _^_, _≤_, _<_};
+ghost use lib.ListN.{length, getD};
 ghost use Rattle.board.specs.Lists.{somewhere, on};
+ghost use Rattle.board.specs.Limits.{mostLines};
 ghost use Rattle.board.specs.Row.{row as rowOf};
 ghost use Rattle.board.specs.Reach.{mark};
-ghost use Rattle.image.specs.Image.{lineCount, outputCount, boardOf};
-ghost use Rattle.image.specs.Inner.{pinsAt, lineAt};
-ghost use Rattle.alter.specs.Inner.{bothOn, sharing, sharingRow, metRow, Meetable};
+ghost use Rattle.image.specs.Image.{lineCount, boardOf};
+ghost use Rattle.image.specs.Inner.{pinsAt, lineAt, Known};
+ghost use Rattle.alter.specs.Inner.{sharing, withSharing, withMet, Meetable};
 
 // Whether a pin of the record at a place is marked.
 fn has_marked_pin(img: &[u8], at: usize, row: &[u8]) -> bool
@@ -52,73 +56,65 @@ fn fill_marks(img: &[u8], line: usize, row: &mut [u8])
     }
 }
 
-// Whether both rows are marked at some output.
-fn share_output(img: &[u8], outputs: usize, own: &[u8], other: &[u8]) -> bool
-    requires { ⌜ (outputs ≡ outputCount (now img)) × (outputs < 65536) ⌝ }
-    ensures { λ r. ⌜ r ≡ somewhere (bothOn (now (own .entry)) (now (other .entry))) (boardOf (now (img .entry)) .outs) ⌝ }
-{
-    let mut j = 0;
-    while j < outputs {
-        let o = output(img, j);
-        if (0 < byte(own, o)) & (0 < byte(other, o)) {
-            return true;
-        }
-        j += 1;
-    }
-    false
-}
-
 // Whether a line reaches an output that is marked in a row, with room for the line's own marks lent.
-fn is_sharing(img: &[u8], outputs: usize, own: &[u8], line: usize, room: &mut [u8]) -> bool
-    requires { ⌜ Meetable (now img) outputs (now room) ⌝ }
+fn is_sharing(img: &[u8], counts: Counts, own: &[u8], line: usize, room: &mut [u8]) -> bool
+    requires { ⌜ Meetable (now img) counts (now room) ⌝ }
     ensures { λ r. ⌜ r ≡ sharing (now (img .entry)) (now (own .entry)) line ⌝ }
 {
     fill_marks(img, line, room);
-    share_output(img, outputs, own, room)
+    at_some_output(img, counts.outputs, Pair::Marked, own, room)
 }
 
-// Marks the lines that reach an output which is marked in a row.
-fn fill_sharing(img: &[u8], outputs: usize, own: &[u8], room: &mut [u8], row: &mut [u8])
-    requires { ⌜ Meetable (now img) outputs (now room) ⌝ }
-    ensures { λ _. ⌜ now (row .exit) ≡ sharingRow (now (img .entry)) (now (own .entry)) (length (now (row .entry))) ⌝ }
+// Marks those lines too that reach an output which is marked in another row.
+fn fill_sharing(img: &[u8], counts: Counts, own: &[u8], room: &mut [u8], row: &mut [u8])
+    requires { ⌜ Meetable (now img) counts (now room) ⌝ }
+    ensures { λ _. ⌜ now (row .exit) ≡ withSharing (now (img .entry)) (now (own .entry)) (now (row .entry)) ⌝ }
 {
     let mut l = 0;
     while l < row.len() {
-        let v = is_sharing(img, outputs, own, l, room) as u8;
+        let v = ((0 < row[l]) | is_sharing(img, counts, own, l, room)) as u8;
         row[l] = v;
         l += 1;
     }
 }
 
-// Marks the lines that reach an output which a line reaches too, with room for two rows lent.
+// Marks those lines too that reach an output which a line reaches, with room for two rows lent.
 fn fill_met(
     img: &[u8],
-    outputs: usize,
+    counts: Counts,
     line: usize,
     own: &mut [u8],
     room: &mut [u8],
     row: &mut [u8],
 )
-    requires { ⌜ Meetable (now img) outputs (now own) × Meetable (now img) outputs (now room) ⌝ }
-    ensures { λ _. ⌜ now (row .exit) ≡ metRow (boardOf (now (img .entry))) line (length (now (row .entry))) ⌝ }
+    requires { ⌜ Meetable (now img) counts (now own) × Meetable (now img) counts (now room) ⌝ }
+    ensures { λ _. ⌜ now (row .exit) ≡ withMet (boardOf (now (img .entry))) line (now (row .entry)) ⌝ }
 {
     fill_marks(img, line, own);
-    fill_sharing(img, outputs, own, room, row);
+    fill_sharing(img, counts, own, room, row);
 }
 
-// Marks the lines that reach an output which a line reaches too.
-pub fn mark_met(img: &[u8], lines: usize, outputs: usize, line: usize, row: &mut [u8])
-    requires { ⌜ Meetable (now img) outputs (now row) × (lines ≡ lineCount (now img)) ⌝ }
-    ensures { λ _. ⌜ now (row .exit) ≡ metRow (boardOf (now (img .entry))) line (lineCount (now (img .entry))) ⌝ }
+// Marks those lines too that reach an output which a line reaches.
+pub fn mark_met(img: &[u8], counts: Counts, line: usize, row: &mut [u8])
+    requires { ⌜ Known (now img) counts ⌝ }
+    ensures { λ _. ⌜ now (row .exit) ≡ withMet (boardOf (now (img .entry))) line (now (row .entry)) ⌝ }
 {
+    let lines = counts.lines;
     let mut own = blank_row();
     let mut room = blank_row();
     fill_met(
         img,
-        outputs,
+        counts,
         line,
         &mut own[..lines],
         &mut room[..lines],
         row,
     );
+}
+
+// A row with no marks.
+pub fn unmarked() -> [u8; MOST_LINES]
+    ensures { λ r. ⌜ (mostLines ≡ length r) × ((l : ℕ) → getD r l 0 ≡ 0) ⌝ }
+{
+    [0u8; MOST_LINES]
 }

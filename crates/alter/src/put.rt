@@ -8,7 +8,7 @@ ghost use Prim.Native.Nat.{_+_, _<_, _≤_};
 ghost use lib.ListN.{length};
 ghost use Rattle.board.specs.Board.{inputs as inputsOf};
 ghost use Rattle.image.specs.Image.{recordPlace, boardOf};
-ghost use Rattle.alter.specs.Patch.{patched, wouldBeBad, badAlteration};
+ghost use Rattle.alter.specs.Patch.{patched, wouldBeBad, unfit};
 
 // Whether some field of the new record would be bad as that line of a board with so many inputs.
 fn would_be_bad(new: &[u8], line: usize, inputs: usize) -> bool
@@ -33,9 +33,9 @@ fn record_place(img: &[u8], line: usize) -> usize
 }
 
 // Refusal 10.
-pub fn is_bad_alteration(img: &[u8], line: usize, inputs: usize, new: &[u8]) -> bool
+pub fn is_unfit(img: &[u8], line: usize, inputs: usize, new: &[u8]) -> bool
     requires { ⌜ (line < 65536) × (inputs ≡ inputsOf (boardOf (now img))) ⌝ }
-    ensures { λ r. ⌜ r ≡ badAlteration (now (img .entry)) line (now (new .entry)) ⌝ }
+    ensures { λ r. ⌜ r ≡ unfit (now (img .entry)) line (now (new .entry)) ⌝ }
 {
     let at = record_place(img, line);
     (byte(img, at) == 0) | ((byte(new, 0) == 0) | would_be_bad(new, line, inputs))

@@ -1,59 +1,46 @@
 // The record put in, and the book brought up to date by the marks of the board before and of the board after.
 use crate::marks::mark_met;
+use crate::marks::unmarked;
 use crate::put::put_record;
 use find::entries::renew;
+use image::Counts;
 use image::limits::Entry;
-use rows::fill::blank_row;
 ghost use mathlib.Core.Path.{_≡_};
-ghost use lib.ListN.{length};
+ghost use Prim.Native.Nat.{ℕ};
+ghost use lib.ListN.{length, getD};
 ghost use Rattle.image.specs.Image.{lineCount};
 ghost use Rattle.alter.specs.Inner.{Reworkable, Reworked};
 
-// Puts the record in and renews the book by the marks of the board before and of the board after, with room for both rows lent.
+// Puts the record in and renews the book by the marks of the board before and of the board after, with a row that has none yet lent.
 fn rework(
     img: &mut [u8],
-    lines: usize,
-    inputs: usize,
-    outputs: usize,
+    counts: Counts,
     line: usize,
     new: &[u8],
-    before: &mut [u8],
-    after: &mut [u8],
+    marks: &mut [u8],
     book: &mut [Entry],
 ) -> usize
-    requires { ⌜ Reworkable (now img) lines inputs outputs line (now new) (now book) × (length (now before) ≡ lineCount (now img)) × (length (now after) ≡ lineCount (now img)) ⌝ }
+    requires { ⌜ Reworkable (now img) counts line (now new) (now book) × (length (now marks) ≡ lineCount (now img)) × ((l : ℕ) → getD (now marks) l 0 ≡ 0) ⌝ }
     ensures { λ r. ⌜ Reworked (now (img .entry)) line (now (new .entry)) (now (book .entry)) r (now (img .exit)) (now (book .exit)) ⌝ }
 {
-    mark_met(img, lines, outputs, line, before);
+    mark_met(img, counts, line, marks);
     put_record(img, line, new);
-    mark_met(img, lines, outputs, line, after);
-    renew(img, lines, inputs, outputs, before, after, book)
+    mark_met(img, counts, line, marks);
+    renew(img, counts, marks, book)
 }
 
 // Puts the record in and brings the book up to date; gives how many entries are then not none.
 pub fn bring_up(
     img: &mut [u8],
-    lines: usize,
-    inputs: usize,
-    outputs: usize,
+    counts: Counts,
     line: usize,
     new: &[u8],
     book: &mut [Entry],
 ) -> usize
-    requires { ⌜ Reworkable (now img) lines inputs outputs line (now new) (now book) ⌝ }
+    requires { ⌜ Reworkable (now img) counts line (now new) (now book) ⌝ }
     ensures { λ r. ⌜ Reworked (now (img .entry)) line (now (new .entry)) (now (book .entry)) r (now (img .exit)) (now (book .exit)) ⌝ }
 {
-    let mut before = blank_row();
-    let mut after = blank_row();
-    rework(
-        img,
-        lines,
-        inputs,
-        outputs,
-        line,
-        new,
-        &mut before[..lines],
-        &mut after[..lines],
-        book,
-    )
+    let lines = counts.lines;
+    let mut marks = unmarked();
+    rework(img, counts, line, new, &mut marks[..lines], book)
 }

@@ -20,7 +20,9 @@ use Rattle.board.proofs.Search.{first-none}
 use Rattle.image.specs.Bytes.{byteAt, wordAt, words}
 use Rattle.image.specs.Image.{lineCount, outputCount, distance, lastFour, firstRecord, recordPlace, outputAt, recordAt, records, boardOf}
 use Rattle.image.specs.Refusals.{badField, badAt, firstBad, badOutput, firstBadOutput, Accepted}
-use Rattle.image.specs.Check.{counts}
+use Rattle.image.specs.Check.{checkPromise}
+use Rattle.image.specs.Inner.{Known}
+use Rattle.image.specs.declared.Counts.{Counts}
 use Rattle.image.proofs.Laws.Check.{accepted}
 use Rattle.image.proofs.Laws.Records.{records-length, records-at, lead-below}
 use Rattle.image.proofs.Laws.Fine.{passed, field-good, four-pins}
@@ -192,5 +194,13 @@ module _ (s : List ℕ) (line : ℕ) (new : List ℕ) (ten : length new ≡ 10) 
     pub same-inputs : inputs (boardOf (patched s line new)) ≡ inputs (boardOf s)
     same-inputs = ap inputs board-is ∙ inputs-altered (boardOf s) line (recordAt new 0) (takes s line new inside fit)
 
-    pub same-counts : counts (patched s line new) ≡ counts s
+    pub same-counts : checkPromise (patched s line new) .done ≡ checkPromise s .done
     same-counts = cc (same-lines, same-outputs, same-inputs)
+
+    pub still-known : {c : Counts} → Known s c → Known (patched s line new) c
+    still-known known = record {
+      ok = patched-accepted;
+      lines-are = known .lines-are ∙ sym same-lines;
+      ins-are = known .ins-are ∙ sym same-inputs;
+      outs-are = known .outs-are ∙ sym same-outputs;
+    }

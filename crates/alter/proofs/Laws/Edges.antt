@@ -3,11 +3,11 @@
 use mathlib.Core.Path.{_≡_, sym, ap, _∙_}
 use mathlib.Core.Logic.{⊎-elim}
 use mathlib.Core.Option.{none}
-use mathlib.Core.List.{List, [], _∷_}
+use mathlib.Core.List.{List}
 use mathlib.Core.Bool.{Bool, false, not, _&&_}
 use Prim.Native.Nat.{ℕ, _+_, _*_, _/_, _<_}
 use native.Mathlib.Omega.{arith}
-use lib.Dec.{leb, lit<}
+use lib.Dec.{eqb, leb, lit<}
 use lib.ListN.{length, getD, take, drop}
 use lib.Seq.{ext-getD, getD-take, getD-drop}
 use borrow.Author.Tests.{eq-eqb, ne-eqb, lt-leb}
@@ -21,10 +21,12 @@ use Rattle.board.proofs.Test.{reach-altered}
 use Rattle.image.specs.Bytes.{byteAt, wordAt}
 use Rattle.image.specs.Image.{lineCount, firstRecord, recordPlace, recordAt, records, boardOf}
 use Rattle.image.specs.Refusals.{badField, imageRefusals, firstRefusal, Accepted}
-use Rattle.image.specs.Calls.{lineRefusals}
+use Rattle.image.specs.Calls.{_then_, lineRefusals}
+use Rattle.image.specs.declared.Refusal.the-variants.{Line, Lent, Alteration}
 use Rattle.image.proofs.Laws.Answer.{next-skip}
 use Rattle.image.proofs.Laws.Fine.{passed, field-good, accepted-fine}
-use Rattle.alter.specs.Patch.{fields, badAlteration}
+use Rattle.find.specs.Book.{badBook}
+use Rattle.alter.specs.Patch.{fields, unfit}
 use Rattle.alter.specs.Alter.{broughtUp}
 use Rattle.alter.specs.Alter.{alterRefusals}
 use Rattle.alter.proofs.Laws.Refused.{Fit, any-inputs, field-at, takes}
@@ -61,8 +63,8 @@ meets-none b a l alone =
 
 module _ (s : List ℕ) (line : ℕ) (ok : Accepted s) (inside : line < lineCount s) where
   module _ (gate : byteAt s (recordPlace s line) ≡ 0 → ⊥) where
-    own-good : badAlteration s line (own s (recordPlace s line)) ≡ false
-    unfolding badAlteration
+    own-good : unfit s line (own s (recordPlace s line)) ≡ false
+    unfolding unfit
     own-good =
         let p = recordPlace s line in
         let ins = inputs (boardOf s) in
@@ -77,8 +79,9 @@ module _ (s : List ℕ) (line : ℕ) (ok : Accepted s) (inside : line < lineCoun
     pub same-accepted : (book : List ℕ) → length book ≡ 2 * lineCount s → firstRefusal (alterRefusals s book line (own s (recordPlace s line))) ≡ none
     unfolding alterRefusals lineRefusals
     same-accepted book long =
-        let named = next-skip (imageRefusals s) ok (leb (lineCount s) line) (6 ∷ []) [] (lt-leb _ _ inside) in
-        next-skip (lineRefusals s line) named _ (9 ∷ []) _ (ap not (eq-eqb _ _ long)) ∙ rw own-good
+        let named = next-skip (imageRefusals s) ok (leb (lineCount s) line) Line (lt-leb _ _ inside) in
+        let whole = next-skip (lineRefusals s line) named (not (eqb (length book) (2 * lineCount s))) Lent (ap not (eq-eqb _ _ long)) in
+        next-skip (lineRefusals s line then badBook s (length book)) whole (unfit s line (own s (recordPlace s line))) Alteration own-good
 
   -- an altered line that reaches no output touches nothing
   module _ (new : List ℕ) (fits : Fit s line new) (alone : (o : ℕ) → o among (boardOf s .outs) → reach (boardOf s) line o ≡ false) where

@@ -18,7 +18,7 @@ use Rattle.image.specs.Image.{lineCount, firstRecord, recordPlace, recordAt, bo
 use Rattle.image.specs.Refusals.{badField}
 use Rattle.image.proofs.Laws.Records.{records-at}
 use Rattle.image.proofs.Laws.Fine.{line-count, good-stands}
-use Rattle.alter.specs.Patch.{fields, wouldBeBad, badAlteration}
+use Rattle.alter.specs.Patch.{fields, wouldBeBad, unfit}
 
 -- field f stands at f: computed over all fields
 pub field-at : (f : ℕ) → f < 6 → getD fields f 0 ≡ f
@@ -55,8 +55,8 @@ pub record Fit (s : List ℕ) (line : ℕ) (new : List ℕ) : Type 0 where
   pub new-gate : byteAt new 0 ≡ 0 → ⊥
   pub good : (f : ℕ) → f < 6 → badField new 0 line (inputs (boardOf s)) f ≡ false
 
-pub fit : (s : List ℕ) (line : ℕ) (new : List ℕ) → badAlteration s line new ≡ false → Fit s line new
-unfolding badAlteration
+pub fit : (s : List ℕ) (line : ℕ) (new : List ℕ) → unfit s line new ≡ false → Fit s line new
+unfolding unfit
 fit s line new e =
     let (old, rest) = or-false (eqb (byteAt s (recordPlace s line)) 0) _ e in
     let (kind, bad) = or-false (eqb (byteAt new 0) 0) _ rest in

@@ -1,160 +1,105 @@
--- `alter::alter` meets its contract: each test of the code is that refusal's own, and past them all the record is put in.
-use mathlib.Core.Path.{_≡_, sym, ap, _∙_}
-use mathlib.Core.Option.{none}
-use mathlib.Core.List.{[], _∷_}
-use mathlib.Core.Bool.{not}
-use Prim.Native.Nat.{ℕ, _*_, _<_}
+-- `alter::alter` meets its contract: refusals are tested in their order, and the image and the book are brought up to date.
+use mathlib.Core.Path.{_≡_, sym, _∙_}
+use mathlib.Core.Option.{Option, none}
+use mathlib.Core.List.{List}
+use Prim.Native.Nat.{_*_, _<_}
 use native.Mathlib.Omega.{arith}
 use lib.ListN.{length}
-use borrow.Author.Tests.{eq-eqb, ne-eqb}
-use Rattle.board.specs.Board.{inputs}
-use Rattle.image.specs.Image.{lineCount, outputCount, boardOf}
-use Rattle.image.specs.Refusals.{firstRefusal, Accepted}
-use Rattle.image.specs.Calls.{lineRefusals}
-use Rattle.image.proofs.Laws.Answer.{first-of-all, next-given, next-skip}
-use Rattle.image.proofs.Laws.Check.{good-says, refused-says}
-use Rattle.image.proofs.Laws.Calls.{line-numbered, line-accepted}
+use Rattle.image.specs.Image.{lineCount}
+use Rattle.image.specs.Refusals.{firstRefusal}
+use Rattle.image.specs.Calls.{_then_, lineRefusals}
+use Rattle.image.specs.Inner.{Past, Known}
+use Rattle.image.specs.declared.Refusal.{Refusal}
+use Rattle.image.specs.declared.Refusal.the-variants.{Alteration}
+use Rattle.image.proofs.Laws.Answer.{after-given, next-given, next-skip, none-both}
+use Rattle.image.proofs.Laws.Calls.{line-accepted}
 use Rattle.image.proofs.Laws.Fine.{lines-few}
+use Rattle.image.proofs.Laws.Promise.{owes-refused, owes-done}
+use Rattle.find.specs.Book.{badBook}
+use Rattle.find.proofs.Laws.Calls.{book-long}
+use Rattle.alter.specs.Patch.{badAlteration}
 use Rattle.alter.specs.Alter.{alterRefusals}
-use Rattle.alter.proofs.Laws.Calls.{alter-refused, alter-done}
 use borrow.Author.Needs.{needs}
 use Rattle.alter.proofs.alter.Statement.{statement}
 use Rattle.alter.proofs.alter.Tie as tie
 
--- past refusals 1 to 6, with the image's counts
-known : (c : tie.After-lines) →
-    let a = c .before .before .before .before .before .before .args in
+-- the refusals before the record's
+before : tie.Start → List (Option Refusal)
+before c = let a = c .args in lineRefusals (a .img .now) (a .line) then badBook (a .img .now) (length (a .book .now))
+
+-- what their tests leave
+tested : (c : tie.After-then-book) →
+    let start = c .before .before .before .before .before in
+    let a = start .args in
+    Past (before start) (a .img .now) (c .then-book .result)
+unfolding before
+tested c =
+    let start = c .before .before .before .before .before in
+    let a = start .args in
+    c .then-book .ensures (lineRefusals (a .img .now) (a .line)) (a .img .now) (c .before .check-line .ensures)
+
+-- where none of them applies
+known : (c : tie.After-counts) →
+    let start = c .before .before .before .before .before .before .before in
+    let a = start .args in
     let s = a .img .now in
-    (firstRefusal (lineRefusals s (a .line)) ≡ none)
-    × (c .lines .given .0 .0 ≡ lineCount s)
-    × (c .lines .given .0 .1 .0 ≡ inputs (boardOf s))
-    × (c .lines .given .0 .1 .1 .0 ≡ outputCount s)
+    (firstRefusal (before start) ≡ none)
+    × Known s (c .counts .given .0 .0)
+    × (a .line < lineCount s)
+    × (length (a .book .now) ≡ 2 * lineCount s)
+unfolding before
 known c =
-    let a = c .before .before .before .before .before .before .args in
+    let start = c .before .before .before .before .before .before .before in
+    let a = start .args in
     let s = a .img .now in
-    good-says s (lineRefusals s (a .line)) _ _ _ (line-numbered s (a .line)) (rw (c .lines .given .1) at (c .before .before .check-line .ensures))
+    let (past, counted) = rw (c .counts .given .1) at (tested (c .before .before)) in
+    let (named, whole) = none-both (lineRefusals s (a .line)) (badBook s (length (a .book .now))) past in
+    (past, counted, line-accepted s (a .line) named .1, book-long s (length (a .book .now)) whole)
 
-inside : (c : tie.After-lines) → let a = c .before .before .before .before .before .before .args in Accepted (a .img .now) × (a .line < lineCount (a .img .now))
-inside c = let a = c .before .before .before .before .before .before .args in line-accepted (a .img .now) (a .line) (known c .0)
-
--- past refusal 9
-long : (c : tie.Else1) → let a = c .before .before .before .before .before .before .before .before .args in length (a .book .now) ≡ 2 * lineCount (a .img .now)
-long c = c .if1 .left ∙ ap (λ (n : ℕ). 2 * n) (known (c .before .before) .1)
-
-check-line-requires : tie.Need-check-line-requires
-check-line-requires c κs = search needs
-
-enum-known-r : tie.Need-enum-known-r
-enum-known-r c = search needs
-
-enum-known-lines : tie.Need-enum-known-lines
-enum-known-lines c = search needs
-
-mul-if1 : tie.Need-mul-if1
-mul-if1 c = let found = c .before in let s = found .before .before .before .before .before .before .args .img .now in omega (arith, known found .1, lines-few s (inside found .0))
-
-same-length : tie.Need-same-length
-same-length c = search needs
+is-unfit-requires : tie.Need-is-unfit-requires
+is-unfit-requires c κs =
+    let (past, counted, inside, long) = known (c .before .before .before) in
+    (omega (arith, inside, lines-few _ (counted .ok)), counted .ins-are)
 
 returns : tie.Need-returns
-unfolding alterRefusals
+unfolding before alterRefusals
 returns c =
-    let found = c .before .before in
-    let a = found .before .before .before .before .before .before .args in
-    alter-refused (a .img .now) (a .book .now) (a .line) (a .t4) _
-    (next-given (lineRefusals (a .img .now) (a .line)) (known found .0) _ (9 ∷ []) _
-    (ap not (ne-eqb (length (a .book .now)) (2 * lineCount (a .img .now)) (λ e. c .if1 .taken (e ∙ ap (λ (n : ℕ). 2 * n) (sym (known found .1)))))))
-
-slice-aggregate-is-bad-alteration : tie.Need-slice-aggregate-is-bad-alteration
-slice-aggregate-is-bad-alteration c = search needs
-
-is-bad-alteration-requires : tie.Need-is-bad-alteration-requires
-is-bad-alteration-requires c κs =
-    let found = c .before .before .before .before in
-    let s = found .before .before .before .before .before .before .args .img .now in
-    (omega (arith, inside found .1, lines-few s (inside found .0)), known found .2)
-
-same-length-2 : tie.Need-same-length-2
-same-length-2 c = search needs
-
-returns-2 : tie.Need-returns-2
-unfolding alterRefusals
-returns-2 c =
-    let past = c .before .before .before .before in
-    let found = past .before .before in
-    let a = found .before .before .before .before .before .before .args in
-    alter-refused (a .img .now) (a .book .now) (a .line) (a .t4) _
-    (next-skip (lineRefusals (a .img .now) (a .line)) (known found .0) _ (9 ∷ []) _ (ap not (eq-eqb _ _ (long past)))
-    ∙ rw (sym (c .before .is-bad-alteration .ensures) ∙ c .if2 .taken))
+    let told = c .before .before .before .before .before in
+    let start = told .before .before .before .before .before .before .before in
+    let a = start .args in
+    owes-refused (next-given (before start) (known told .0) _ Alteration (sym (c .before .is-unfit .ensures) ∙ c .if1 .taken))
 
 slice-aggregate-bring-up : tie.Need-slice-aggregate-bring-up
 slice-aggregate-bring-up c = search needs
 
 bring-up-requires : tie.Need-bring-up-requires
 bring-up-requires c κs =
-    let past = c .before .before .before in
-    let found = past .before .before .before .before .before .before in
-    let (ok, line) = inside found in
-    record {
-      ok = ok;
-      lines-are = known found .1;
-      ins-are = known found .2;
-      outs-are = known found .3;
-      inside = line;
-      ten = sym (slice-aggregate-bring-up (c .before));
-      fine = sym (past .before .is-bad-alteration .ensures) ∙ past .if2 .left;
-      long = long (past .before .before .before .before);
-    }
+    let else = c .before .before .before in
+    let (past, counted, inside, long) = known (else .before .before .before .before .before) in
+    record { known = counted; inside = inside; ten = sym (slice-aggregate-bring-up (c .before)); fine = sym (else .before .is-unfit .ensures) ∙ else .if1 .left; long = long }
 
-same-length-3 : tie.Need-same-length-3
-same-length-3 c = search needs
+returns-2 : tie.Need-returns-2
+unfolding before alterRefusals
+returns-2 c =
+    let told = c .before in
+    let start = told .before .before .before .before .before .before .before in
+    let a = start .args in
+    owes-refused (after-given (before start) (badAlteration (a .img .now) (a .line) (a .t4)) (rw (told .r .given .1) at (tested (told .before .before))))
 
 returns-3 : tie.Need-returns-3
-unfolding alterRefusals
+unfolding before alterRefusals
 returns-3 c =
-    let refused = c .before in
-    let a = refused .before .before .before .before .before .before .args in
-    alter-refused (a .img .now) (a .book .now) (a .line) (a .t4) _
-    (first-of-all (lineRefusals (a .img .now) (a .line)) _ _
-    (refused-says (a .img .now) (lineRefusals (a .img .now) (a .line)) _ (rw (refused .r .given .1) at (refused .before .before .check-line .ensures))))
-
-same-length-4 : tie.Need-same-length-4
-same-length-4 c = search needs
-
-same-length-5 : tie.Need-same-length-5
-same-length-5 c = search needs
-
-returns-4 : tie.Need-returns-4
-unfolding alterRefusals
-returns-4 c =
-    let done = c .before .before .before .before in
-    let past = done .before .before .before .before in
-    let tested = past .before .before .before .before in
-    let found = tested .before .before in
-    let a = found .before .before .before .before .before .before .args in
-    alter-done (a .img .now) (a .book .now) (a .line) (a .t4)
-    (next-skip (lineRefusals (a .img .now) (a .line)) (known found .0) _ (9 ∷ []) _ (ap not (eq-eqb _ _ (long tested)))
-    ∙ rw (sym (past .before .is-bad-alteration .ensures) ∙ past .if2 .left))
-    _ _ _ (done .bring-up .ensures)
+    let up = c .before .before .before .before in
+    let else = up .before .before .before .before in
+    let told = else .before .before .before .before .before in
+    let start = told .before .before .before .before .before .before .before in
+    let a = start .args in
+    let left = up .bring-up .ensures in
+    rw (left .image, left .book-is, left .count)
+    (owes-done (next-skip (before start) (known told .0) _ Alteration (sym (else .before .is-unfit .ensures) ∙ else .if1 .left)))
 
 pub alter-spec : {M : Type 1} → statement M
 alter-spec =
     tie.close
-    (tie.spec
-    check-line-requires
-    enum-known-r
-    enum-known-lines
-    mul-if1
-    same-length
-    returns
-    slice-aggregate-is-bad-alteration
-    is-bad-alteration-requires
-    same-length-2
-    returns-2
-    slice-aggregate-bring-up
-    bring-up-requires
-    same-length-3
-    returns-3
-    same-length-4
-    same-length-5
-    returns-4)
+    (tie.spec (λ c κs. search needs) (λ c κs. search needs) (λ c. search needs) (λ c. search needs) (λ c. search needs) is-unfit-requires
+    (λ c. search needs) returns (λ c. search needs) bring-up-requires (λ c. search needs) returns-2 (λ c. search needs) (λ c. search needs) returns-3)

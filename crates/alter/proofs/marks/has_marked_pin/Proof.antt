@@ -38,29 +38,8 @@ pin-reads c =
     let a = at-loop .before .before .before .before .args in
     ap on (pin-at (a .img .now) (a .at) (a .row .now) (at-loop .loop .j) (used c) ∙ sym (c .byte2 .ensures .0 ∙ rw (c .before .word .ensures .0)))
 
-add-byte : tie.Need-add-byte Inv-loop μ-loop
-add-byte c = search needs
-
-byte-requires : tie.Need-byte-requires Inv-loop μ-loop
-byte-requires c κs = search needs
-
 loop-holds : tie.Need-loop-holds Inv-loop μ-loop
 loop-holds c = (search needs, below-none _)
-
-add-word : tie.Need-add-word Inv-loop μ-loop
-add-word c = search needs
-
-mul-word : tie.Need-mul-word Inv-loop μ-loop
-mul-word c = search needs
-
-add-word-2 : tie.Need-add-word-2 Inv-loop μ-loop
-add-word-2 c = search needs
-
-word-requires : tie.Need-word-requires Inv-loop μ-loop
-word-requires c κs = search needs
-
-byte-requires-2 : tie.Need-byte-requires-2 Inv-loop μ-loop
-byte-requires-2 c κs = search needs
 
 returns : tie.Need-returns Inv-loop μ-loop
 returns c =
@@ -69,12 +48,6 @@ returns c =
     let a = at-loop .before .before .before .before .args in
     let size = pins-length (a .img .now) (a .at) (a .row .now) in
     sym (somewhere-at on (pinsAt (a .img .now) (a .at) (a .row .now)) (at-loop .loop .j) (rw size (used pin)) (pin-reads pin ∙ lt-ltb _ _ (c .if1 .taken)))
-
-add-j : tie.Need-add-j Inv-loop μ-loop
-add-j c = search needs
-
-loop-less : tie.Need-loop-less Inv-loop μ-loop
-loop-less c = search needs
 
 loop-again : tie.Need-loop-again Inv-loop μ-loop
 loop-again c =
@@ -89,19 +62,5 @@ returns-2 c =
 pub has-marked-pin-spec : {M : Type 1} → statement M
 has-marked-pin-spec =
     tie.close
-    (tie.spec
-    Inv-loop
-    μ-loop
-    add-byte
-    byte-requires
-    loop-holds
-    add-word
-    mul-word
-    add-word-2
-    word-requires
-    byte-requires-2
-    returns
-    add-j
-    loop-less
-    loop-again
-    returns-2)
+    (tie.spec Inv-loop μ-loop (λ c. search needs) (λ c κs. search needs) loop-holds (λ c. search needs) (λ c. search needs) (λ c. search needs)
+    (λ c κs. search needs) (λ c κs. search needs) returns (λ c. search needs) (λ c. search needs) loop-again returns-2)

@@ -11,23 +11,22 @@ use Rattle.alter.proofs.marks.is_sharing.Tie as tie
 fill-marks-requires : tie.Need-fill-marks-requires
 fill-marks-requires c κs =
     let start = c .before .before .before .before in
-    (le-of-eq (start .pre .long), omega (arith, start .pre .long, lines-few (start .args .img .now) (start .pre .ok)))
+    (le-of-eq (start .pre .long), omega (arith, start .pre .long, lines-few (start .args .img .now) (start .pre .known .ok)))
 
-share-output-requires : tie.Need-share-output-requires
-share-output-requires c κs =
+at-some-output-requires : tie.Need-at-some-output-requires
+at-some-output-requires c κs =
     let start = c .before .before .before .before .before .before .before .before in
-    (start .pre .outs, omega (arith, start .pre .outs, outputs-few (start .args .img .now) (start .pre .ok)))
-
-same-length : tie.Need-same-length
-same-length c = search needs
+    let known = start .pre .known in
+    (known .outs-are, omega (arith, known .outs-are, outputs-few (start .args .img .now) (known .ok)))
 
 returns : tie.Need-returns
 unfolding sharing
 returns c =
     let filled = c .before .before .before .before in
     let start = filled .before .before .before .before .before in
-    c .share-output .ensures ∙ rw (filled .fill-marks .ensures, start .pre .long)
+    c .at-some-output .ensures ∙ rw (filled .fill-marks .ensures, start .pre .long)
 
 pub is-sharing-spec : {M : Type 1} → statement M
 is-sharing-spec =
-    tie.close (tie.spec fill-marks-requires share-output-requires same-length returns)
+    tie.close
+    (tie.spec fill-marks-requires at-some-output-requires (λ c. search needs) returns)

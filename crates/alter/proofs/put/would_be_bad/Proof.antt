@@ -21,9 +21,6 @@ abbrev μ-loop : tie.MeasureT-loop
 loop-holds : tie.Need-loop-holds Inv-loop μ-loop
 loop-holds c = (search needs, below-none _)
 
-is-bad-field-requires : tie.Need-is-bad-field-requires Inv-loop μ-loop
-is-bad-field-requires c κs = search needs
-
 returns : tie.Need-returns Inv-loop μ-loop
 returns c =
     let at-loop = c .before .before .before in
@@ -32,12 +29,6 @@ returns c =
     let inside = c .before .before .loop-test .taken in
     sym (somewhere-at (badField (a .new .now) 0 (a .line) (a .inputs)) fields field inside
     (ap (badField (a .new .now) 0 (a .line) (a .inputs)) (field-at field inside) ∙ sym (c .before .is-bad-field .ensures) ∙ c .if1 .taken))
-
-add-field : tie.Need-add-field Inv-loop μ-loop
-add-field c = search needs
-
-loop-less : tie.Need-loop-less Inv-loop μ-loop
-loop-less c = search needs
 
 loop-again : tie.Need-loop-again Inv-loop μ-loop
 loop-again c =
@@ -52,13 +43,4 @@ returns-2 c =
 pub would-be-bad-spec : {M : Type 1} → statement M
 would-be-bad-spec =
     tie.close
-    (tie.spec
-    Inv-loop
-    μ-loop
-    loop-holds
-    is-bad-field-requires
-    returns
-    add-field
-    loop-less
-    loop-again
-    returns-2)
+    (tie.spec Inv-loop μ-loop loop-holds (λ c κs. search needs) returns (λ c. search needs) (λ c. search needs) loop-again returns-2)
