@@ -5,7 +5,7 @@
     tools/five-table.py --check    says whether the table there is this one
     tools/five-table.py --print    prints it
 
-The entries stand in the order that `place` of crates/five/specs/Table.antt gives: by section, then by the first pin's value, and so on.
+The entries stand in the order that `slot` of crates/five/specs/Table.antt gives: by section, then by the first pin's value, and so on.
 A value is written 0, 1, 2 (x), 3 (D: good 1, faulty 0) or 4 (D-bar: good 0, faulty 1).
 """
 import itertools

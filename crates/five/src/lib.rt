@@ -3,16 +3,21 @@ pub mod count;
 pub mod fill;
 pub mod line;
 pub mod partial;
+pub mod said;
 pub mod table;
 
-use board::Condition;
+use board::Fault;
+use board::having;
 use count::count_driven;
 use fill::fill;
 use image::Checked;
 use image::Refusal;
 use image::asked::check_fault;
-use partial::is_bad_partial;
-ghost use Rattle.five.specs.Five.{FiveOwes};
+use image::asked::then_row;
+use partial::then_partial;
+ghost use mathlib.Core.List.{[], _∷_};
+ghost use Rattle.image.specs.Promise.{Owes};
+ghost use Rattle.five.specs.Five.{drivenSays, fivePromise};
 
 pub enum Driven {
     Count(usize),
@@ -20,23 +25,16 @@ pub enum Driven {
 }
 
 // Five values: for a partial pattern and a fault, fills the row, and says how many output lines hold D or D-bar.
-pub fn five(img: &[u8], named: u64, values: u64, line: usize, stuck: u8, row: &mut [u8]) -> Driven
-    ensures { λ r. ⌜ FiveOwes (now (img .entry)) named values line stuck (now (row .entry)) r (now (row .exit)) ⌝ }
+pub fn five(img: &[u8], named: u64, values: u64, fault: Fault, row: &mut [u8]) -> Driven
+    ensures { λ r. ⌜ Owes (fivePromise (now (img .entry)) named values fault (now (row .entry))) (now (row .exit) ∷ []) (drivenSays r) ⌝ }
 {
-    match check_fault(img, line, stuck) {
+    match then_row(
+        then_partial(check_fault(img, fault), named, values),
+        row.len(),
+    ) {
         Checked::Refused(r) => Driven::Refused(r),
-        Checked::Good {
-            lines,
-            inputs,
-            outputs: _,
-        } => {
-            if is_bad_partial(named, values, inputs) {
-                return Driven::Refused(Refusal::Pattern);
-            }
-            if row.len() != lines {
-                return Driven::Refused(Refusal::Lent);
-            }
-            fill(img, named, values, Condition::Line(line, stuck), row);
+        Checked::Good(_) => {
+            fill(img, named, values, having(fault), row);
             Driven::Count(count_driven(img, row))
         }
     }

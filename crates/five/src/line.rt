@@ -1,4 +1,4 @@
-// The five value of one line: the fault is a value, so that there is one way to work a line out.
+// The five value of one line: the condition is a value, so that there is one way to work a line out.
 use crate::table::entry;
 use crate::table::pick;
 use board::Condition;
@@ -38,12 +38,12 @@ fn held(s: usize, v: usize) -> usize
     pick(&PAIR, 2 * pick(&GOOD_HALF, v) + s)
 }
 
-// What line i gives, of a value that it would have: the value, held where the fault holds the line.
-fn held_line(fault: Condition, i: usize, v: usize) -> u8
-    requires { ⌜ (stuckAt fault < 2) × (v < 5) ⌝ }
-    ensures { λ r. ⌜ r ≡ heldLine hold5 fault i v ⌝ }
+// What line i gives, of a value that it would have: the value, held where the condition holds the line.
+fn held_line(condition: Condition, i: usize, v: usize) -> u8
+    requires { ⌜ (stuckAt condition < 2) × (v < 5) ⌝ }
+    ensures { λ r. ⌜ r ≡ heldLine hold5 condition i v ⌝ }
 {
-    held(stuck_line(fault, i) as usize, v) as u8
+    held(stuck_line(condition, i) as usize, v) as u8
 }
 
 // What an input has under a partial pattern: its bit where it is named, and x where it is not.
@@ -64,17 +64,17 @@ fn pin_value(
     j: usize,
     filler: usize,
     i: usize,
-    fault: Condition,
+    condition: Condition,
     below: &[u8],
 ) -> usize
-    requires { ⌜ Gated (now img) at fault (now below) × (j < 4) × (filler < 5) ⌝ }
-    ensures { λ r. ⌜ (r ≡ getD (readAt fault (now (img .entry)) at i (now (below .entry))) j filler) × (r < 5) ⌝ }
+    requires { ⌜ Gated (now img) at condition (now below) × (j < 4) × (filler < 5) ⌝ }
+    ensures { λ r. ⌜ (r ≡ getD (readAt condition (now (img .entry)) at i (now (below .entry))) j filler) × (r < 5) ⌝ }
 {
     if byte(img, at + 1) <= j {
         return filler;
     }
     let pin = word(img, at + 2 + 2 * j);
-    held(stuck_pin(fault, i, j) as usize, byte(below, pin))
+    held(stuck_pin(condition, i, j) as usize, byte(below, pin))
 }
 
 // What fills an absent pin in each section: 1, 0 and 0 in turn.
@@ -87,17 +87,17 @@ fn section_value(
     at: usize,
     section: usize,
     i: usize,
-    fault: Condition,
+    condition: Condition,
     below: &[u8],
 ) -> usize
-    requires { ⌜ Ruled (now table) × Gated (now img) at fault (now below) × (section < 3) ⌝ }
-    ensures { λ r. ⌜ (r ≡ gate5 (kindOf section) (readAt fault (now (img .entry)) at i (now (below .entry)))) × (r < 5) ⌝ }
+    requires { ⌜ Ruled (now table) × Gated (now img) at condition (now below) × (section < 3) ⌝ }
+    ensures { λ r. ⌜ (r ≡ gate5 (kindOf section) (readAt condition (now (img .entry)) at i (now (below .entry)))) × (r < 5) ⌝ }
 {
     let filler = pick(&FILLERS, section);
-    let a = pin_value(img, at, 0, filler, i, fault, below);
-    let b = pin_value(img, at, 1, filler, i, fault, below);
-    let c = pin_value(img, at, 2, filler, i, fault, below);
-    let d = pin_value(img, at, 3, filler, i, fault, below);
+    let a = pin_value(img, at, 0, filler, i, condition, below);
+    let b = pin_value(img, at, 1, filler, i, condition, below);
+    let c = pin_value(img, at, 2, filler, i, condition, below);
+    let d = pin_value(img, at, 3, filler, i, condition, below);
     entry(table, section, a, b, c, d)
 }
 
@@ -113,15 +113,15 @@ fn gate_value(
     img: &[u8],
     at: usize,
     i: usize,
-    fault: Condition,
+    condition: Condition,
     below: &[u8],
 ) -> usize
-    requires { ⌜ Ruled (now table) × Gated (now img) at fault (now below) × (0 < byteAt (now img) at) ⌝ }
-    ensures { λ r. ⌜ (r ≡ gate5 (byteAt (now (img .entry)) at) (readAt fault (now (img .entry)) at i (now (below .entry)))) × (r < 5) ⌝ }
+    requires { ⌜ Ruled (now table) × Gated (now img) at condition (now below) × (0 < byteAt (now img) at) ⌝ }
+    ensures { λ r. ⌜ (r ≡ gate5 (byteAt (now (img .entry)) at) (readAt condition (now (img .entry)) at i (now (below .entry)))) × (r < 5) ⌝ }
 {
     let kind = byte(img, at);
     let way = pick(&WAYS, kind - 1);
-    let v = section_value(table, img, at, way / 2, i, fault, below);
+    let v = section_value(table, img, at, way / 2, i, condition, below);
     if way % 2 == 1 { pick(&OPPOSITE, v) } else { v }
 }
 
@@ -132,15 +132,19 @@ pub fn line_value(
     named: u64,
     values: u64,
     i: usize,
-    fault: Condition,
+    condition: Condition,
     below: &[u8],
 ) -> u8
-    requires { ⌜ Ruled (now table) × Lined (now img) i fault (now below) ⌝ }
-    ensures { λ r. ⌜ r ≡ step (five fault (partial named values)) (boardOf (now (img .entry))) i (now (below .entry)) ⌝ }
+    requires { ⌜ Ruled (now table) × Lined (now img) i condition (now below) ⌝ }
+    ensures { λ r. ⌜ r ≡ step (five condition (partial named values)) (boardOf (now (img .entry))) i (now (below .entry)) ⌝ }
 {
     let at = first_record(img) + 10 * i;
     if byte(img, at) == 0 {
-        return held_line(fault, i, input_value(named, values, i));
+        return held_line(condition, i, input_value(named, values, i));
     }
-    held_line(fault, i, gate_value(table, img, at, i, fault, below))
+    held_line(
+        condition,
+        i,
+        gate_value(table, img, at, i, condition, below),
+    )
 }

@@ -1,4 +1,4 @@
-// The gate rule of the five values, as one fixed table. `place` of specs/Table.antt is the order of its entries.
+// The gate rule of the five values, as one fixed table. `slot` of specs/Table.antt is the order of its entries.
 ghost use mathlib.Core.Path.{_≡_};
 ghost use mathlib.Core.List.{[], _∷_};
 ghost use Prim.Native.Nat.{_<_};

@@ -2,16 +2,13 @@
 use mathlib.Core.Path.{_≡_, sym, _∙_}
 use mathlib.Core.List.{List}
 use Prim.Native.Nat.{ℕ, _+_, _*_, _≤_, _<_}
-use native.Mathlib.Numerals.{add-one}
 use native.Mathlib.Omega.{arith}
 use lib.Dec.{lit<}
-use lib.ListN.{length, getD, take, set, List·getD-eq-default}
-use lib.Seq.{take-suc-set}
+use lib.ListN.{length, getD, List·getD-eq-default}
 use borrow.Author.Tests.{eq-eqb, ne-eqb}
-use Rattle.board.specs.Lists.{build}
 use Rattle.board.specs.Limits.{lastKind}
-use Rattle.board.specs.Board.{Board, recordOf}
-use Rattle.board.specs.Row.{Rule, step, row}
+use Rattle.board.specs.Board.{recordOf}
+use Rattle.board.specs.Row.{step}
 use Rattle.board.specs.Gate.{heldLine}
 use Rattle.board.specs.Inner.{stuckPin, heldAt}
 use Rattle.board.specs.Fine.{most, mostPins, Stands}
@@ -40,7 +37,7 @@ module _ (φ : Condition) (s : List ℕ) (p i : ℕ) (below : List ℕ) where
     pub present-pin : (j w : ℕ) → j < byteAt s (p + 1)
         → heldAt hold5 (stuckPin φ i j) (getD below (wordAt s (p + 2 + 2 * j)) 0) ≡ getD (readAt φ s p i below) j w
     present-pin j w l =
-        sym (any-default (readAt φ s p i below) j w 0 (rw read-length l) ∙ pin-reads s p below hold5 φ i (ok .held) j l)
+        sym (any-default (readAt φ s p i below) j w 0 (rw read-length l) ∙ pin-reads s p below hold5 φ i (ok .condition .held) j l)
 
     -- at most four pins are read
     pub few-read : length (readAt φ s p i below) ≤ 4
@@ -67,9 +64,3 @@ module _ (φ : Condition) (start : ℕ → ℕ) (s : List ℕ) (i : ℕ) (inside
       → heldLine hold5 φ i (gate5 (byteAt s (recordPlace s i)) (readAt φ s (recordPlace s i) i below)) ≡ step (five φ start) (boardOf s) i below
   unfolding lineAt
   line-gate ne = rw (ne-eqb (byteAt s (recordPlace s i)) 0 ne) at (line-step (five φ start) s i below inside)
-
--- one line more of a row
-pub row-next : (F : Rule) (b : Board) (r : List ℕ) (i v : ℕ) → i < length r → take i r ≡ row F b i → v ≡ step F b i (take i r)
-    → take (i + 1) (set r i v) ≡ row F b (i + 1)
-unfolding build
-row-next F b r i v l e q = rw (add-one, take-suc-set r i v l, q, e)

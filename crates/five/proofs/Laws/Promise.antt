@@ -12,20 +12,22 @@ use borrow.Author.Tests.{eqb-true, eqb-false}
 use Rattle.board.specs.Lists.{somewhere, bit, ones}
 use Rattle.board.specs.Board.{inputs, Low}
 use Rattle.board.specs.Row.{value}
-use Rattle.board.specs.Gate.{bitOf, good, faulty, stuck}
+use Rattle.board.specs.Gate.{bitOf, good, having, faulty}
 use Rattle.board.specs.Test.{differs, shows}
 use Rattle.board.specs.Five.{goodHalf, faultyHalf, five, partial, Completes}
+use Rattle.board.specs.declared.Fault.{Fault}
 use Rattle.board.specs.declared.Condition.{Condition}
-use Rattle.board.specs.declared.Condition.the-variants.{Line}
 use Rattle.board.proofs.Lists.{way, or-true, or-right, where-passes, passes-somewhere}
 use Rattle.board.proofs.Row.{row-at}
 use Rattle.board.proofs.Fine.{fine-low}
 use Rattle.board.proofs.Five.{every-completion, all-named}
 use Rattle.image.specs.Image.{lineCount, boardOf}
 use Rattle.image.specs.Refusals.{Accepted}
+use Rattle.image.specs.Promise.{Owes}
+use Rattle.image.specs.Inner.{OnBoard}
 use Rattle.image.proofs.Laws.Fine.{line-count, accepted-fine}
 use Rattle.five.specs.Driven.{isDriven, drivenOf, driven}
-use Rattle.five.specs.Five.{fiveRow, FiveOwes}
+use Rattle.five.specs.Five.{drivenSays, fiveRow, fivePromise}
 use Rattle.five.specs.declared.Driven.the-variants.{Count}
 use Rattle.five.proofs.Laws.Call.{count-says}
 
@@ -46,8 +48,8 @@ driven-apart v e =
     (λ q. let is = eqb-true v 4 q in rw is (eqb-false 4 2 refl, refl))
     (or-true (eqb v 3) (eqb v 4) e)
 
--- the row of any fault whose stuck value is 0 or 1, a line's or a pin's
-module _ (s : List ℕ) (ok : Accepted s) (φ : Condition) (held : stuck φ < 2) (named values : ℕ) where
+-- the row in any condition of an accepted image's board
+module _ (s : List ℕ) (ok : Accepted s) (φ : Condition) (on : OnBoard s φ) (named values : ℕ) where
   -- what stands in the row is the line's five value
   row-says : (i : ℕ) → i < lineCount s → getD (fiveRow s φ named values) i 0 ≡ value (five φ (partial named values)) (boardOf s) i
   unfolding fiveRow
@@ -61,7 +63,7 @@ module _ (s : List ℕ) (ok : Accepted s) (φ : Condition) (held : stuck φ < 2)
       × (faultyHalf (getD (fiveRow s φ named values) i 0) ≡ value (faulty φ x) (boardOf s) i)
   row-settled x c i l settled =
       let is = row-says i l in
-      rw is (every-completion (boardOf s) low φ held named values x c i (λ e. settled (is ∙ e)))
+      rw is (every-completion (boardOf s) low φ (on .held) named values x c i (λ e. settled (is ∙ e)))
 
   driven-differs : (x : ℕ) → Completes x named values → (o : ℕ) → o < lineCount s → isDriven (getD (fiveRow s φ named values) o 0) ≡ true
       → differs (boardOf s) φ x o ≡ true
@@ -81,26 +83,27 @@ module _ (s : List ℕ) (ok : Accepted s) (φ : Condition) (held : stuck φ < 2)
 
   row-named : ((i : ℕ) → i < inputs (boardOf s) → bitOf named i ≡ 1) → (i : ℕ) → i < lineCount s → getD (fiveRow s φ named values) i 0 ≡ 2 → ⊥
   row-named full i l e =
-      all-named (boardOf s) low φ held named values (lineCount s)
+      all-named (boardOf s) low φ (on .held) named values (lineCount s)
       (λ j m k. full j (accepted-fine s ok .inputs-first j (rw (line-count s) m) k)) i l (sym (row-says i l) ∙ e)
 
 -- the call's row
-module _ (s : List ℕ) (named values line stuck : ℕ) (old : List ℕ) (n : ℕ) (new : List ℕ) (owes : FiveOwes s named values line stuck old (Count n) new) where
+module _ (s : List ℕ) (named values : ℕ) (φ : Fault) (old : List ℕ) (n : ℕ) (new : List ℕ)
+    (owes : Owes (fivePromise s named values φ old) (new ∷ []) (drivenSays (Count n))) where
   -- wherever it says 0, 1, D or D-bar, every completion of the partial pattern has that pair of good and faulty values there
   pub settled-always : (x : ℕ) → Completes x named values → (i : ℕ) → i < lineCount s → (getD new i 0 ≡ 2 → ⊥)
-      → (goodHalf (getD new i 0) ≡ value (good x) (boardOf s) i) × (faultyHalf (getD new i 0) ≡ value (faulty (Line line stuck) x) (boardOf s) i)
+      → (goodHalf (getD new i 0) ≡ value (good x) (boardOf s) i) × (faultyHalf (getD new i 0) ≡ value (faulty (having φ) x) (boardOf s) i)
   settled-always =
-      let (ok, held, count, filled) = count-says s named values line stuck old n new owes in
-      rw filled (row-settled s ok (Line line stuck) held named values)
+      let (fills, count, filled) = count-says s named values φ old n new owes in
+      rw filled (row-settled s (fills .ok) (having φ) (fills .condition) named values)
 
   -- so a count above 0 means that every completion shows the fault
-  pub count-shows : 0 < n → (x : ℕ) → Completes x named values → shows (boardOf s) (Line line stuck) x ≡ true
+  pub count-shows : 0 < n → (x : ℕ) → Completes x named values → shows (boardOf s) (having φ) x ≡ true
   count-shows some =
-      let (ok, held, count, filled) = count-says s named values line stuck old n new owes in
-      row-shows s ok (Line line stuck) held named values (rw (count, filled) at some)
+      let (fills, count, filled) = count-says s named values φ old n new owes in
+      row-shows s (fills .ok) (having φ) (fills .condition) named values (rw (count, filled) at some)
 
   -- and where no input is left unnamed no line is x
   pub named-settled : ((i : ℕ) → i < inputs (boardOf s) → bitOf named i ≡ 1) → (i : ℕ) → i < lineCount s → getD new i 0 ≡ 2 → ⊥
   named-settled =
-      let (ok, held, count, filled) = count-says s named values line stuck old n new owes in
-      rw filled (row-named s ok (Line line stuck) held named values)
+      let (fills, count, filled) = count-says s named values φ old n new owes in
+      rw filled (row-named s (fills .ok) (having φ) (fills .condition) named values)

@@ -14,7 +14,7 @@ use borrow.Author.Tests.{ltb-true, ltb-false}
 use Rattle.board.specs.Gate.{kinds}
 use Rattle.board.specs.Five.{everyFilling, gate5}
 use Rattle.board.proofs.Lists.{way}
-use Rattle.five.specs.Table.{kindOf, place, Ruled}
+use Rattle.five.specs.Table.{kindOf, slot, Ruled}
 
 -- the test passes at each entry of the list and its place, counted from i
 abbrev pub every : (ℕ → ℕ → Bool) → ℕ → List ℕ → Bool
@@ -49,7 +49,7 @@ table-ruled {table} t n =
     record {
       entries =
           λ section a b c d hs ha hb hc hd.
-          let k = place section a b c d in
+          let k = slot section a b c d in
           let e0 : k / 625 ≡ section = omega arith in
           let e1 : k / 125 % 5 ≡ a = omega arith in
           let e2 : k / 25 % 5 ≡ b = omega arith in

@@ -19,28 +19,10 @@ Inv-loop img row outputs count₀ j₀ count j =
 abbrev μ-loop : tie.MeasureT-loop
 μ-loop img row outputs count₀ j₀ count j = outputs - j
 
-output-count-requires : tie.Need-output-count-requires Inv-loop μ-loop
-output-count-requires c κs = search needs
-
 loop-holds : tie.Need-loop-holds Inv-loop μ-loop
 loop-holds c =
     let a = c .before .before .before .args in
     (search needs, search needs, none-driven (a .row .now) (a .img .now) _)
-
-output-requires : tie.Need-output-requires Inv-loop μ-loop
-output-requires c κs = search needs
-
-driven-at-requires : tie.Need-driven-at-requires Inv-loop μ-loop
-driven-at-requires c κs = search needs
-
-add-count : tie.Need-add-count Inv-loop μ-loop
-add-count c = search needs
-
-add-j : tie.Need-add-j Inv-loop μ-loop
-add-j c = search needs
-
-loop-less : tie.Need-loop-less Inv-loop μ-loop
-loop-less c = search needs
 
 loop-again : tie.Need-loop-again Inv-loop μ-loop
 loop-again c =
@@ -59,15 +41,5 @@ returns c =
 pub count-driven-spec : {M : Type 1} → statement M
 count-driven-spec =
     tie.close
-    (tie.spec
-    Inv-loop
-    μ-loop
-    output-count-requires
-    loop-holds
-    output-requires
-    driven-at-requires
-    add-count
-    add-j
-    loop-less
-    loop-again
-    returns)
+    (tie.spec Inv-loop μ-loop (λ c κs. search needs) loop-holds (λ c κs. search needs) (λ c κs. search needs) (λ c. search needs) (λ c. search needs)
+    (λ c. search needs) loop-again returns)

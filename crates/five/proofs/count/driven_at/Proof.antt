@@ -5,14 +5,10 @@ use Rattle.five.specs.Driven.{isDriven}
 use Rattle.five.proofs.count.driven_at.Statement.{statement}
 use Rattle.five.proofs.count.driven_at.Tie as tie
 
-byte-requires : tie.Need-byte-requires
-byte-requires c κs = search needs
-
-cast-result : tie.Need-cast-result
-cast-result c = search needs
-
 returns : tie.Need-returns
 returns c = (rw (c .byte .ensures .0), bit-below (isDriven (c .byte .result)))
 
 pub driven-at-spec : {M : Type 1} → statement M
-driven-at-spec = tie.close (tie.spec byte-requires cast-result returns)
+driven-at-spec =
+    tie.close
+    (tie.spec (λ c κs. search needs) (λ c. search needs) returns)

@@ -13,40 +13,22 @@ use Rattle.five.proofs.Laws.Below.{gate-below}
 use Rattle.five.proofs.line.gate_value.Statement.{statement}
 use Rattle.five.proofs.line.gate_value.Tie as tie
 
-byte-requires : tie.Need-byte-requires
-byte-requires c κs = search needs
-
-slice-aggregate-pick : tie.Need-slice-aggregate-pick
-slice-aggregate-pick c = search needs
-
-sub-pick : tie.Need-sub-pick
-sub-pick c = search needs
-
-pick-requires : tie.Need-pick-requires
-pick-requires c κs = search needs
-
 section-value-requires : tie.Need-section-value-requires
 section-value-requires c κs =
     let start = c .before .before .before .before .before .before in
     let low = getD-below 6 ways tt (c .before .before .byte .result - 1) 2 (lit< tt) in
     (start .pre .0, start .pre .1, omega (arith, low, c .pick .ensures .0))
 
-slice-aggregate-pick-2 : tie.Need-slice-aggregate-pick-2
-slice-aggregate-pick-2 c = search needs
-
-pick-requires-2 : tie.Need-pick-requires-2
-pick-requires-2 c κs = search needs
-
 -- what the section has, turned as the kind's way says, is the kind's value
 goes : (c : tie.After-section-value) →
     let a = c .before .before .before .before .before .before .before .args in
     turned (c .before .pick .result) (c .section-value .result)
-    ≡ gate5 (byteAt (a .img .now) (a .at)) (readAt (a .fault) (a .img .now) (a .at) (a .i) (a .below .now))
+    ≡ gate5 (byteAt (a .img .now) (a .at)) (readAt (a .condition) (a .img .now) (a .at) (a .i) (a .below .now))
 goes c =
     let start = c .before .before .before .before .before .before .before in
     let a = start .args in
     let way = rw (c .before .before .before .byte .ensures .0) at (c .before .pick .ensures .0) in
-    gate-goes (byteAt (a .img .now) (a .at)) _ _ (readAt (a .fault) (a .img .now) (a .at) (a .i) (a .below .now)) (start .pre .2) (start .pre .1 .kind) way
+    gate-goes (byteAt (a .img .now) (a .at)) _ _ (readAt (a .condition) (a .img .now) (a .at) (a .i) (a .below .now)) (start .pre .2) (start .pre .1 .kind) way
     (c .section-value .ensures .0)
 
 returns : tie.Need-returns
@@ -65,13 +47,5 @@ returns-2 c =
 pub gate-value-spec : {M : Type 1} → statement M
 gate-value-spec =
     tie.close
-    (tie.spec
-    byte-requires
-    slice-aggregate-pick
-    sub-pick
-    pick-requires
-    section-value-requires
-    slice-aggregate-pick-2
-    pick-requires-2
-    returns
-    returns-2)
+    (tie.spec (λ c κs. search needs) (λ c. search needs) (λ c. search needs) (λ c κs. search needs) section-value-requires (λ c. search needs)
+    (λ c κs. search needs) returns returns-2)

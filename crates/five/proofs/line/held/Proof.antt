@@ -13,24 +13,6 @@ returns-2 c =
     let free = c .before in
     rw (lt-ltb (free .before .args .s) 2 (free .if1 .left), eq-eqb (free .before .args .v) 2 (c .if2 .taken))
 
-slice-aggregate-pick : tie.Need-slice-aggregate-pick
-slice-aggregate-pick c = search needs
-
-slice-aggregate-pick-2 : tie.Need-slice-aggregate-pick-2
-slice-aggregate-pick-2 c = search needs
-
-pick-requires : tie.Need-pick-requires
-pick-requires c κs = search needs
-
-mul-pick : tie.Need-mul-pick
-mul-pick c = search needs
-
-add-pick : tie.Need-add-pick
-add-pick c = search needs
-
-pick-requires-2 : tie.Need-pick-requires-2
-pick-requires-2 c κs = search needs
-
 returns-3 : tie.Need-returns-3
 returns-3 c =
     let past = c .before .before .before .before in
@@ -41,13 +23,5 @@ returns-3 c =
 pub held-spec : {M : Type 1} → statement M
 held-spec =
     tie.close
-    (tie.spec
-    returns
-    returns-2
-    slice-aggregate-pick
-    slice-aggregate-pick-2
-    pick-requires
-    mul-pick
-    add-pick
-    pick-requires-2
-    returns-3)
+    (tie.spec returns returns-2 (λ c. search needs) (λ c. search needs) (λ c κs. search needs) (λ c. search needs) (λ c. search needs)
+    (λ c κs. search needs) returns-3)

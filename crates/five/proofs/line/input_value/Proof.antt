@@ -5,15 +5,6 @@ use borrow.Author.Tests.{eq-eqb, ne-eqb}
 use Rattle.five.proofs.line.input_value.Statement.{statement}
 use Rattle.five.proofs.line.input_value.Tie as tie
 
-bit-of-requires : tie.Need-bit-of-requires
-bit-of-requires c κs = search needs
-
-bit-of-requires-2 : tie.Need-bit-of-requires-2
-bit-of-requires-2 c κs = search needs
-
-cast-result : tie.Need-cast-result
-cast-result c = search needs
-
 returns : tie.Need-returns
 returns c =
     let named = c .before .before .bit-of .ensures in
@@ -24,4 +15,5 @@ returns-2 c = rw (ne-eqb _ 1 (λ e. c .if1 .left (c .before .bit-of .ensures ∙
 
 pub input-value-spec : {M : Type 1} → statement M
 input-value-spec =
-    tie.close (tie.spec bit-of-requires bit-of-requires-2 cast-result returns returns-2)
+    tie.close
+    (tie.spec (λ c κs. search needs) (λ c κs. search needs) (λ c. search needs) returns returns-2)

@@ -17,7 +17,7 @@ use Rattle.five.proofs.line.line_value.Tie as tie
 short : (c : tie.After-first-record) → c .before .before .before .before .args .i < 512
 short c =
     let start = c .before .before .before .before in
-    omega (arith, start .pre .1 .inside, lines-few (start .args .img .now) (start .pre .1 .accepted))
+    omega (arith, start .pre .1 .inside, lines-few (start .args .img .now) (start .pre .1 .ok))
 
 -- the line's kind
 kind : (c : tie.After-byte) →
@@ -27,26 +27,17 @@ kind c =
     let a = c .before .before .before .before .before .args in
     c .byte .ensures .0 ∙ ap (λ (p : ℕ). byteAt (a .img .now) (p + 10 * a .i)) (c .before .first-record .ensures .0)
 
-first-record-requires : tie.Need-first-record-requires
-first-record-requires c κs = search needs
-
 mul-at : tie.Need-mul-at
 mul-at c = let few = short c in omega arith
 
 add-at : tie.Need-add-at
 add-at c = let few = short c in omega arith
 
-byte-requires : tie.Need-byte-requires
-byte-requires c κs = search needs
-
-input-value-requires : tie.Need-input-value-requires
-input-value-requires c κs = search needs
-
 held-line-requires : tie.Need-held-line-requires
 held-line-requires c κs =
     let start = c .before .before .before .before .before .before .before in
     let a = start .args in
-    (start .pre .1 .held, rw (c .input-value .ensures) (partial-below (a .named) (a .values) (a .i)))
+    (start .pre .1 .condition .held, rw (c .input-value .ensures) (partial-below (a .named) (a .values) (a .i)))
 
 returns : tie.Need-returns
 returns c =
@@ -54,8 +45,8 @@ returns c =
     let start = test .before .before .before .before .before .before in
     let a = start .args in
     c .held-line .ensures
-    ∙ ap (heldLine hold5 (a .fault) (a .i)) (c .before .input-value .ensures)
-    ∙ line-input (a .fault) (partial (a .named) (a .values)) (a .img .now) (a .i) (start .pre .1 .inside) (a .below .now) (sym (kind (test .before)) ∙ test .if1 .taken)
+    ∙ ap (heldLine hold5 (a .condition) (a .i)) (c .before .input-value .ensures)
+    ∙ line-input (a .condition) (partial (a .named) (a .values)) (a .img .now) (a .i) (start .pre .1 .inside) (a .below .now) (sym (kind (test .before)) ∙ test .if1 .taken)
 
 gate-value-requires : tie.Need-gate-value-requires
 gate-value-requires c κs =
@@ -63,16 +54,16 @@ gate-value-requires c κs =
     let start = read .before .before .before .before .before in
     let a = start .args in
     let few = short (read .before) in
-    let (known, pins) = record-good (a .img .now) (start .pre .1 .accepted) (a .i) (start .pre .1 .inside) in
+    let (known, pins) = record-good (a .img .now) (start .pre .1 .ok) (a .i) (start .pre .1 .inside) in
     let place = read .before .first-record .ensures .0 in
     let gate : 0 < read .byte .result = omega arith in (
       start .pre .0,
-      record { low = omega arith; kind = rw place known; few = rw place pins; held = start .pre .1 .held; fives = start .pre .1 .fives },
+      record { low = omega arith; kind = rw place known; few = rw place pins; condition = start .pre .1 .condition; fives = start .pre .1 .fives },
       rw (read .byte .ensures .0) at gate,
     )
 
 held-line-requires-2 : tie.Need-held-line-requires-2
-held-line-requires-2 c κs = (c .before .before .before .before .before .before .before .pre .1 .held, c .gate-value .ensures .1)
+held-line-requires-2 c κs = (c .before .before .before .before .before .before .before .pre .1 .condition .held, c .gate-value .ensures .1)
 
 returns-2 : tie.Need-returns-2
 returns-2 c =
@@ -82,20 +73,11 @@ returns-2 c =
     let a = start .args in
     let place = read .before .first-record .ensures .0 in
     c .held-line2 .ensures
-    ∙ ap (heldLine hold5 (a .fault) (a .i)) (rw place at (c .before .gate-value .ensures .0))
-    ∙ line-gate (a .fault) (partial (a .named) (a .values)) (a .img .now) (a .i) (start .pre .1 .inside) (a .below .now) (λ e. test .if1 .left (kind read ∙ e))
+    ∙ ap (heldLine hold5 (a .condition) (a .i)) (rw place at (c .before .gate-value .ensures .0))
+    ∙ line-gate (a .condition) (partial (a .named) (a .values)) (a .img .now) (a .i) (start .pre .1 .inside) (a .below .now) (λ e. test .if1 .left (kind read ∙ e))
 
 pub line-value-spec : {M : Type 1} → statement M
 line-value-spec =
     tie.close
-    (tie.spec
-    first-record-requires
-    mul-at
-    add-at
-    byte-requires
-    input-value-requires
-    held-line-requires
-    returns
-    gate-value-requires
-    held-line-requires-2
-    returns-2)
+    (tie.spec (λ c κs. search needs) mul-at add-at (λ c κs. search needs) (λ c κs. search needs) held-line-requires returns gate-value-requires
+    held-line-requires-2 returns-2)

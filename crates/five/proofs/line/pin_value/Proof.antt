@@ -1,4 +1,4 @@
--- `five::line::pin_value` meets its contract: an absent pin has the filler, and any other its line's value, held where the fault holds the pin.
+-- `five::line::pin_value` meets its contract: an absent pin has the filler, and any other its line's value, held where the condition holds the pin.
 use mathlib.Core.Path.{ap, ap₂, _∙_}
 use Prim.Native.Nat.{_+_, _*_}
 use borrow.Author.Needs.{needs}
@@ -10,42 +10,12 @@ use Rattle.five.proofs.Laws.Line.{absent-pin, present-pin}
 use Rattle.five.proofs.line.pin_value.Statement.{statement}
 use Rattle.five.proofs.line.pin_value.Tie as tie
 
-add-byte : tie.Need-add-byte
-add-byte c = search needs
-
-byte-requires : tie.Need-byte-requires
-byte-requires c κs = search needs
-
 returns : tie.Need-returns
 returns c =
     let start = c .before .before .before .before in
     let a = start .args in
     let few = rw (c .before .byte .ensures .0) at (c .if1 .taken) in
-    (absent-pin (a .fault) (a .img .now) (a .at) (a .i) (a .below .now) (a .j) (a .filler) few, start .pre .2)
-
-add-word : tie.Need-add-word
-add-word c = search needs
-
-mul-word : tie.Need-mul-word
-mul-word c = search needs
-
-add-word-2 : tie.Need-add-word-2
-add-word-2 c = search needs
-
-word-requires : tie.Need-word-requires
-word-requires c κs = search needs
-
-stuck-pin-requires : tie.Need-stuck-pin-requires
-stuck-pin-requires c κs = search needs
-
-cast-held : tie.Need-cast-held
-cast-held c = search needs
-
-byte-requires-2 : tie.Need-byte-requires-2
-byte-requires-2 c κs = search needs
-
-held-requires : tie.Need-held-requires
-held-requires c κs = search needs
+    (absent-pin (a .condition) (a .img .now) (a .at) (a .i) (a .below .now) (a .j) (a .filler) few, start .pre .2)
 
 returns-2 : tie.Need-returns-2
 returns-2 c =
@@ -55,23 +25,12 @@ returns-2 c =
     let used = rw (past .before .byte .ensures .0) at (past .if1 .left) in
     let reads = c .before .byte2 .ensures .0 ∙ ap (byteAt (a .below .now)) (c .before .before .before .word .ensures .0) in
     let is = c .held .ensures ∙ ap₂ (heldAt hold5) (c .before .before .stuck-pin .ensures) reads in (
-      is ∙ present-pin (a .fault) (a .img .now) (a .at) (a .i) (a .below .now) (start .pre .0) (a .j) (a .filler) used,
-      rw is (held-below (stuckPin (a .fault) (a .i) (a .j)) _ (start .pre .0 .fives (wordAt (a .img .now) (a .at + 2 + 2 * a .j)))),
+      is ∙ present-pin (a .condition) (a .img .now) (a .at) (a .i) (a .below .now) (start .pre .0) (a .j) (a .filler) used,
+      rw is (held-below (stuckPin (a .condition) (a .i) (a .j)) _ (start .pre .0 .fives (wordAt (a .img .now) (a .at + 2 + 2 * a .j)))),
     )
 
 pub pin-value-spec : {M : Type 1} → statement M
 pin-value-spec =
     tie.close
-    (tie.spec
-    add-byte
-    byte-requires
-    returns
-    add-word
-    mul-word
-    add-word-2
-    word-requires
-    stuck-pin-requires
-    cast-held
-    byte-requires-2
-    held-requires
-    returns-2)
+    (tie.spec (λ c. search needs) (λ c κs. search needs) returns (λ c. search needs) (λ c. search needs) (λ c. search needs) (λ c κs. search needs)
+    (λ c κs. search needs) (λ c. search needs) (λ c κs. search needs) (λ c κs. search needs) returns-2)

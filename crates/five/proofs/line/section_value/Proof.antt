@@ -12,12 +12,6 @@ use Rattle.five.proofs.Laws.Line.{few-read}
 use Rattle.five.proofs.line.section_value.Statement.{statement}
 use Rattle.five.proofs.line.section_value.Tie as tie
 
-slice-aggregate-pick : tie.Need-slice-aggregate-pick
-slice-aggregate-pick c = search needs
-
-pick-requires : tie.Need-pick-requires
-pick-requires c κs = search needs
-
 -- the filler is one of the five values
 small : (c : tie.After-pick) → c .pick .result < 5
 small c = rw (c .pick .ensures .0) (getD-below 5 fillers tt (c .before .before .before .before .before .args .section) 2 (lit< tt))
@@ -34,9 +28,6 @@ pin-value-requires-3 c κs = (c .before .before .before .before .before .before 
 pin-value-requires-4 : tie.Need-pin-value-requires-4
 pin-value-requires-4 c κs = (c .before .before .before .before .before .before .before .before .pre .1, lit< tt, small (c .before .before .before))
 
-entry-requires : tie.Need-entry-requires
-entry-requires c κs = search needs
-
 returns : tie.Need-returns
 returns c =
     let fourth = c .before in
@@ -46,8 +37,8 @@ returns c =
     let picked = first .before in
     let start = picked .before .before .before .before .before in
     let a = start .args in
-    let vs = readAt (a .fault) (a .img .now) (a .at) (a .i) (a .below .now) in
-    let few = few-read (a .fault) (a .img .now) (a .at) (a .i) (a .below .now) (start .pre .1) in
+    let vs = readAt (a .condition) (a .img .now) (a .at) (a .i) (a .below .now) in
+    let few = few-read (a .condition) (a .img .now) (a .at) (a .i) (a .below .now) (start .pre .1) in
     let is =
     c .entry .ensures
     ∙ pins-read (a .section) (start .pre .2) vs few _ (picked .pick .ensures .0) _ _ _ _ (first .pin-value .ensures .0) (second .pin-value2 .ensures .0)
@@ -57,12 +48,5 @@ returns c =
 pub section-value-spec : {M : Type 1} → statement M
 section-value-spec =
     tie.close
-    (tie.spec
-    slice-aggregate-pick
-    pick-requires
-    pin-value-requires
-    pin-value-requires-2
-    pin-value-requires-3
-    pin-value-requires-4
-    entry-requires
-    returns)
+    (tie.spec (λ c. search needs) (λ c κs. search needs) pin-value-requires pin-value-requires-2 pin-value-requires-3 pin-value-requires-4
+    (λ c κs. search needs) returns)

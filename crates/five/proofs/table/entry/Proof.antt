@@ -4,33 +4,6 @@ use borrow.Author.Needs.{needs}
 use Rattle.five.proofs.table.entry.Statement.{statement}
 use Rattle.five.proofs.table.entry.Tie as tie
 
-mul-pick : tie.Need-mul-pick
-mul-pick c = search needs
-
-mul-pick-2 : tie.Need-mul-pick-2
-mul-pick-2 c = search needs
-
-add-pick : tie.Need-add-pick
-add-pick c = search needs
-
-mul-pick-3 : tie.Need-mul-pick-3
-mul-pick-3 c = search needs
-
-add-pick-2 : tie.Need-add-pick-2
-add-pick-2 c = search needs
-
-mul-pick-4 : tie.Need-mul-pick-4
-mul-pick-4 c = search needs
-
-add-pick-3 : tie.Need-add-pick-3
-add-pick-3 c = search needs
-
-add-pick-4 : tie.Need-add-pick-4
-add-pick-4 c = search needs
-
-pick-requires : tie.Need-pick-requires
-pick-requires c κs = search needs
-
 returns : tie.Need-returns
 returns c =
     let start = c .before .before in
@@ -41,14 +14,5 @@ returns c =
 pub entry-spec : {M : Type 1} → statement M
 entry-spec =
     tie.close
-    (tie.spec
-    mul-pick
-    mul-pick-2
-    add-pick
-    mul-pick-3
-    add-pick-2
-    mul-pick-4
-    add-pick-3
-    add-pick-4
-    pick-requires
-    returns)
+    (tie.spec (λ c. search needs) (λ c. search needs) (λ c. search needs) (λ c. search needs) (λ c. search needs) (λ c. search needs) (λ c. search needs)
+    (λ c. search needs) (λ c κs. search needs) returns)

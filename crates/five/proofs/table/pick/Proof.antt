@@ -8,9 +8,6 @@ use Rattle.five.proofs.Laws.Lists.{any-default}
 use Rattle.five.proofs.table.pick.Statement.{statement}
 use Rattle.five.proofs.table.pick.Tie as tie
 
-shared-slice-read-result : tie.Need-shared-slice-read-result
-shared-slice-read-result c = search needs
-
 cast-result : tie.Need-cast-result
 cast-result c = omega (arith, c .shared-slice-known .given (c .before .before .args .at))
 
@@ -23,4 +20,6 @@ returns-2 : tie.Need-returns-2
 returns-2 c = (sym (List·getD-eq-default (c .before .args .table .now) 2 (c .if1 .left)), lit< tt)
 
 pub pick-spec : {M : Type 1} → statement M
-pick-spec = tie.close (tie.spec shared-slice-read-result cast-result returns returns-2)
+pick-spec =
+    tie.close
+    (tie.spec (λ c. search needs) cast-result returns returns-2)

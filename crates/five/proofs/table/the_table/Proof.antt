@@ -9,4 +9,6 @@ unfolding isRule
 returns c = table-ruled tt refl
 
 pub the-table-spec : {M : Type 1} → statement M
-the-table-spec = tie.close (tie.spec returns)
+the-table-spec =
+    tie.close
+    (tie.spec returns)
