@@ -33,6 +33,11 @@ bitOf x i = x / 2 ^ i % 2
 abbrev pub good : ℕ → Rule
 good x i k vs = cond (eqb k 0) (bitOf x i) (gate k vs)
 
+infix 50 _at_
+-- the fault of a line that is stuck at a value
+abbrev pub _at_ : ℕ → ℕ → Fault
+line at value = record { line = line; stuck = value }
+
 -- the condition of a board with a fault: one line is held for everything that reads it
 abbrev pub having : Fault → Condition
 having φ = Line (φ .line) (φ .stuck)

@@ -1,83 +1,47 @@
--- What the front page cites beside the laws of the calls: a call whose answer is the first refusal that applies, or begins with 0, turns
--- away as demand 1 says.
-use mathlib.Core.Path.{_≡_, refl, ap, _∙_}
+-- What the front page cites beside the laws of the calls.
+use mathlib.Core.Path.{_≡_, refl, sym, ap, _∙_}
+use mathlib.Core.Logic.{⊎-elim}
 use mathlib.Core.Option.{Option, none, some}
 use mathlib.Core.List.{List, [], _∷_}
-use mathlib.Core.Bool.{true, _||_, not}
+use mathlib.Core.Bool.{true, false, not}
 use Prim.Native.Nat.{ℕ, _+_, _*_, _/_, _%_, _^_, _<_}
 use native.Mathlib.Omega.{arith}
-use lib.Dec.{eqb, ltb, leb, lit<}
-use lib.ListN.{length, getD, take}
+use lib.Dec.{eqb}
+use lib.ListN.{length, getD}
 use borrow.Author.Tests.{eq-eqb, ne-eqb}
-use Rattle.board.specs.Lists.{somewhere, build}
+use Rattle.board.specs.Limits.{noneMark}
+use Rattle.board.specs.Lists.{build}
 use Rattle.board.specs.Board.{Board, inputs, altered}
+use Rattle.board.specs.Gate.{_at_, having}
 use Rattle.board.specs.Test.{differs, shows, find}
-use Rattle.board.specs.Book.{lineFault, entry, renewed, Right}
+use Rattle.board.specs.Book.{lineFault, entry, answerIn, found, renewed, Right}
+use Rattle.board.specs.declared.Fault.{Fault}
 use Rattle.board.specs.declared.Condition.{Condition}
-use Rattle.board.specs.declared.Condition.the-variants.{Line}
-use Rattle.board.proofs.Lists.{clash, where-passes, passes-somewhere, build-length, build-at}
-use Rattle.board.proofs.Search.{first-is-smallest}
-use Rattle.board.proofs.Alter.{fresh-right}
-use Rattle.image.specs.Refusals.{firstRefusal, answer}
+use Rattle.board.proofs.Lists.{way, clash, where-passes, passes-somewhere, build-length, build-at}
+use Rattle.board.proofs.Search.{first-is-smallest, smallest-one}
+use Rattle.board.proofs.Alter.{entry-stands, stands-entry, fresh-right}
 use Rattle.image.specs.Image.{lineCount, recordAt, boardOf}
-use Rattle.image.specs.Calls.{badRow}
-use Rattle.image.proofs.Laws.Answer.{Numbered, none-numbered, given-numbered}
-use Rattle.image.proofs.Laws.Check.{image-numbered}
-use Rattle.image.proofs.Laws.Calls.{append-numbered, line-numbered, fault-numbered}
-use Rattle.rows.specs.Rows.{rowsRefusals}
-use Rattle.rows.specs.Judge.{judgeRefusals}
-use Rattle.rows.specs.Refresh.{refreshRefusals}
-use Rattle.find.specs.Book.{bookRefusals, bookOf}
-use Rattle.find.specs.declared.Counted.{Counted}
-use Rattle.alter.specs.Patch.{patched, badAlteration}
-use Rattle.alter.specs.Alter.{broughtUp}
-use Rattle.alter.specs.Alter.{alterRefusals, AlterOwes}
-use Rattle.alter.proofs.Laws.Runs.{alter-accepted}
+use Rattle.image.specs.Refusals.{imageRefusals, firstRefusal, Accepted}
+use Rattle.image.specs.Promise.{numbers, Promise, Owes}
+use Rattle.image.specs.Calls.{faultRefusals}
+use Rattle.image.proofs.Laws.Answer.{none-both}
+use Rattle.image.proofs.Laws.Fine.{accepted-fine}
+use Rattle.image.proofs.Laws.Promise.{number-over, done-leaves, done-says}
+use Rattle.find.specs.Find.{patternOf, findPromise}
+use Rattle.find.specs.Book.{badBook, bookRefusals, bookOf, bookPromise}
+use Rattle.alter.specs.Patch.{patched}
+use Rattle.alter.specs.Alter.{broughtUp, alterRefusals, alterPromise, Calls, done, next}
+use Rattle.alter.proofs.Laws.Runs.{alter-accepted, patches, alter-keeps}
 use Rattle.alter.proofs.Laws.Board.{board-is}
-use Rattle.find.specs.Find.{patternOf}
-use Rattle.demands.specs.Demands.{TurnsAway, DifferSomewhere, SmallestTest, WholeBook, BroughtUp}
+use Rattle.demands.specs.Demands.{TurnsAway, DifferSomewhere, SmallestTest, WholeBook, patterns, BroughtUp}
 
-pub turned-away : {rs : List (Option (List ℕ))} {said : List ℕ} (a : List ℕ) {lent left : List (List ℕ)} → Numbered rs → said ≡ answer rs a → getD a 0 1 ≡ 0
-    → ((v : List ℕ) → firstRefusal rs ≡ some v → left ≡ lent) → TurnsAway rs said lent left
-turned-away a numbered is zero same = record {
-  by-number = λ v e. (is ∙ rw e, numbered .over v e);
-  else-0 = λ e. rw (is, e) zero;
-  unchanged = same;
+-- whatever is owed turns away as demand 1 says
+pub turned-away : {p : Promise} {left : List (List ℕ)} {said : List ℕ} → Owes p left said → TurnsAway p left said
+turned-away {p} {left} {said} owes = record {
+  by-number = λ r e. let is : said ≡ numbers r = rw e at (owes .answers) in (is, rw is (number-over r));
+  unchanged = λ r e. rw e at (owes .leaves);
+  else-0 = λ e. rw (done-says owes e);
 }
-
--- a pattern's numbers, and those of none, begin with 0
-pub pattern-0 : (o : Option ℕ) → getD (patternOf o) 0 1 ≡ 0
-pattern-0 none = refl
-pattern-0 (some p) = refl
-
--- the number of each refusal is over 0
-module _ (s : List ℕ) (x line : ℕ) where
-  pub judge-numbered : (stuck : ℕ) → Numbered (judgeRefusals s x line stuck)
-  unfolding judgeRefusals
-  judge-numbered stuck = append-numbered (fault-numbered s line stuck) (given-numbered (leb (2 ^ inputs (boardOf s)) x) (8 ∷ []) (lit< tt) none-numbered)
-
-  pub rows-numbered : (stuck : ℕ) (g f : List ℕ) → Numbered (rowsRefusals s x line stuck g f)
-  unfolding rowsRefusals
-  rows-numbered stuck g f =
-      append-numbered (fault-numbered s line stuck)
-      (given-numbered (leb (2 ^ inputs (boardOf s)) x) (8 ∷ []) (lit< tt) (given-numbered (badRow s g || badRow s f) (9 ∷ []) (lit< tt) none-numbered))
-
-  pub refresh-numbered : (old : List ℕ) → Numbered (refreshRefusals s x line old)
-  unfolding refreshRefusals
-  refresh-numbered old =
-      append-numbered (line-numbered s line)
-      (given-numbered (leb (2 ^ inputs (boardOf s)) x) (8 ∷ []) (lit< tt)
-      (given-numbered (badRow s old) (9 ∷ []) (lit< tt) (given-numbered (somewhere (ltb 1) (take line old)) (11 ∷ []) (lit< tt) none-numbered)))
-
-pub book-numbered : (s old : List ℕ) → Numbered (bookRefusals s old)
-unfolding bookRefusals
-book-numbered s old = append-numbered (image-numbered s) (given-numbered (not (eqb (length old) (2 * lineCount s))) (9 ∷ []) (lit< tt) none-numbered)
-
-pub alter-numbered : (s book : List ℕ) (line : ℕ) (new : List ℕ) → Numbered (alterRefusals s book line new)
-unfolding alterRefusals
-alter-numbered s book line new =
-    append-numbered (line-numbered s line)
-    (given-numbered (not (eqb (length book) (2 * lineCount s))) (9 ∷ []) (lit< tt) (given-numbered (badAlteration s line new) (10 ∷ []) (lit< tt) none-numbered))
 
 -- two rows differ at an output, or the pattern does not show the fault
 pub shows-differ : (b : Board) (φ : Condition) (x : ℕ) → shows b φ x ≡ true → DifferSomewhere b φ x
@@ -89,46 +53,87 @@ unfolding shows differs
 differ-shows b φ x (o, m, ne) = passes-somewhere (differs b φ x) (b .outs) o m (rw (ne-eqb _ _ ne))
 
 -- what a search from pattern 0 up gives is the smallest test
-pub find-smallest : (s : List ℕ) (line stuck : ℕ) → SmallestTest s line stuck (find (boardOf s) (Line line stuck))
+find-smallest : (s : List ℕ) (φ : Fault) → SmallestTest s φ (find (boardOf s) (having φ))
 unfolding find
-find-smallest s line stuck = first-is-smallest (shows (boardOf s) (Line line stuck)) (2 ^ inputs (boardOf s))
+find-smallest s φ = first-is-smallest (shows (boardOf s) (having φ)) (2 ^ inputs (boardOf s))
 
-pub book-whole : (s : List ℕ) → WholeBook s (bookOf s)
-unfolding bookOf
-book-whole s =
+pub found-smallest : (s : List ℕ) (φ : Fault) (said : List ℕ) → Owes (findPromise s φ) [] said → firstRefusal (faultRefusals s φ) ≡ none
+    → (o : Option ℕ) × (said ≡ 0 ∷ patternOf o) × SmallestTest s φ o
+found-smallest s φ said owes e = (find (boardOf s) (having φ), done-says owes e, find-smallest s φ)
+
+-- entry 2 x line + stuck value is that of the line's fault
+entry-fault : (line stuck : ℕ) → stuck < 2 → lineFault (2 * line + stuck) ≡ having (line at stuck)
+entry-fault line stuck held =
+    let l : (2 * line + stuck) / 2 ≡ line = omega arith in
+    let k : (2 * line + stuck) % 2 ≡ stuck = omega arith in
+    rw (l, k)
+
+-- a book of an accepted image is whole exactly when it has two numbers a line and is right
+right-whole : (s book : List ℕ) → Accepted s → length book ≡ 2 * lineCount s → Right lineFault (boardOf s) book → WholeBook s book
+right-whole s book ok long right = record {
+  long = long;
+  entries =
+      λ line stuck inside held.
+      let is = right (2 * line + stuck) (omega (arith, long)) in
+      let fault = having (line at stuck) in
+      rw (is, entry-fault line stuck held, entry-stands (boardOf s) (accepted-fine s ok) fault) (find-smallest s (line at stuck));
+}
+
+whole-right : (s book : List ℕ) → WholeBook s book → Right lineFault (boardOf s) book
+whole-right s book whole k l =
+    let inside : k / 2 < lineCount s = omega (arith, l, whole .long) in
+    let held : k % 2 < 2 = omega arith in
+    let place : 2 * (k / 2) + k % 2 ≡ k = omega arith in
+    let fault = (k / 2) at (k % 2) in
+    let small = rw place at (whole .entries (k / 2) (k % 2) inside held) in
+    let one = smallest-one (shows (boardOf s) (having fault)) (2 ^ inputs (boardOf s)) (answerIn (getD book k 0)) (find (boardOf s) (having fault)) small (find-smallest s fault) in
+    sym (stands-entry (getD book k 0)) ∙ ap entry one
+
+-- the count of entries that are not none is that of the patterns
+counts-patterns : (book : List ℕ) → found book ≡ patterns book
+counts-patterns [] = refl
+counts-patterns (e ∷ es) =
+    ⊎-elim
+    (λ (t : eqb e noneMark ≡ true). rw t (omega (arith, counts-patterns es)))
+    (λ (t : eqb e noneMark ≡ false). rw t (omega (arith, counts-patterns es)))
+    (way (eqb e noneMark))
+
+-- a book as the call fills it is whole, and its count is that of its patterns
+pub filled-whole : (s old after said : List ℕ) → Owes (bookPromise s old) (after ∷ []) said → firstRefusal (bookRefusals s old) ≡ none
+    → Accepted s × WholeBook s after × (said ≡ 0 ∷ patterns after ∷ [])
+unfolding bookRefusals bookOf
+filled-whole s old after said owes e =
+    let ok = none-both (imageRefusals s) (badBook s (length old)) e .0 in
+    let left = done-leaves owes e in
+    let is : after ≡ bookOf s = cc in
     let answers : ℕ → List ℕ → ℕ = λ k before. entry (find (boardOf s) (lineFault k)) in
-    record {
-      long = build-length answers (2 * lineCount s);
-      entries =
-          λ line stuck inside held.
-          let l : (2 * line + stuck) / 2 ≡ line = omega arith in
-          let k : (2 * line + stuck) % 2 ≡ stuck = omega arith in (
-            find (boardOf s) (Line line stuck),
-            build-at answers (2 * lineCount s) (2 * line + stuck) (omega arith) ∙ rw (l, k),
-            find-smallest s line stuck,
-          );
-    }
+    let whole = right-whole s (bookOf s) ok (build-length answers (2 * lineCount s)) (fresh-right lineFault (boardOf s) (2 * lineCount s)) in
+    (ok, rw is whole, done-says owes e ∙ rw (is, counts-patterns (bookOf s)))
 
 -- an accepted alteration brings every entry up to date
-pub brought-up : (s book : List ℕ) (line : ℕ) (new : List ℕ) (r : Counted) (t later : List ℕ) → length new ≡ 10 → AlterOwes s book line new r t later
-    → firstRefusal (alterRefusals s book line new) ≡ none → BroughtUp s t line new book later
+pub brought-up : (s book : List ℕ) (line : ℕ) (new t later said : List ℕ) → length new ≡ 10 → Owes (alterPromise s book line new) (t ∷ later ∷ []) said
+    → firstRefusal (alterRefusals s book line new) ≡ none → BroughtUp s t line new book later × (said ≡ 0 ∷ patterns later ∷ [])
 unfolding broughtUp renewed
-brought-up s book line new r t later ten owes e =
+brought-up s book line new t later said ten owes e =
     let b = boardOf s in
     let a = recordAt new 0 in
-    let (ok, inside, fits) = alter-accepted s book line new e in
-    let put : t ≡ patched s line new = rw e at (owes .image) in
-    let board : boardOf t ≡ altered b line a = ap boardOf put ∙ board-is s line new ten ok inside fits in
+    let known = alter-accepted s book line new e in
+    let (put, up) = patches line new ten owes e in
+    let board : boardOf t ≡ altered b line a = ap boardOf put ∙ board-is s line new ten (known .ok) (known .inside) (known .fits) in
     let entries : ℕ → List ℕ → ℕ = λ k before. renewed b line a (lineFault k) (getD book k 0) in
-    let is : later ≡ build entries (length book) = rw e at (owes .book-is) in
-    record {
-      image = put;
-      long = rw is (build-length entries (length book));
-      fresh = λ k l yes. rw (is, board) (build-at entries (length book) k l ∙ rw yes);
-      kept = λ k l no. rw is (build-at entries (length book) k l ∙ rw no);
-    }
+    let is : later ≡ build entries (length book) = up in (
+      record {
+        image = put;
+        long = rw is (build-length entries (length book));
+        fresh = λ k l yes. rw (is, board) (build-at entries (length book) k l ∙ rw yes);
+        kept = λ k l no. rw is (build-at entries (length book) k l ∙ rw no);
+      },
+      done-says owes e ∙ rw (up, counts-patterns (broughtUp s book line new)),
+    )
 
--- a book as the call fills it is right
-pub filled-right : (s : List ℕ) → Right lineFault (boardOf s) (bookOf s)
-unfolding bookOf
-filled-right s = fresh-right lineFault (boardOf s) (2 * lineCount s)
+-- through any run of calls an accepted image stays accepted, and its whole book whole
+pub stays-whole : {s book t last : List ℕ} → Calls s book t last → Accepted s → WholeBook s book → Accepted t × WholeBook t last
+stays-whole done ok whole = (ok, whole)
+stays-whole (next {s} {t} {u} {book} {later} line new ten one more) ok whole =
+    let kept = alter-keeps line new ten one (record { ok = ok; long = whole .long; right = whole-right s book whole }) in
+    stays-whole more (kept .ok) (right-whole t later (kept .ok) (kept .long) (kept .right))

@@ -1,48 +1,78 @@
--- The words in which the three demands are stated.
+-- The words in which the three demands are stated, and the calls that they are stated of.
 use mathlib.Core.Path.{_≡_}
 use mathlib.Core.Option.{Option, none, some}
-use mathlib.Core.List.{List}
+use mathlib.Core.List.{List, map}
 use mathlib.Core.Bool.{true, false}
-use Prim.Native.Nat.{ℕ, _+_, _*_, _/_, _^_, _<_}
+use Prim.Native.Nat.{ℕ, _+_, _*_, _^_, _<_}
 use lib.ListN.{length, getD}
-use Rattle.board.specs.Lists.{_among_}
+use Rattle.board.specs.Lists.{_among_, ones}
 use Rattle.board.specs.Board.{Board, inputs}
 use Rattle.board.specs.Row.{value}
-use Rattle.board.specs.Gate.{good, faulty}
+use Rattle.board.specs.Gate.{good, _at_, having, site, faulty}
 use Rattle.board.specs.Reach.{touched}
 use Rattle.board.specs.Test.{shows, Smallest, find}
-use Rattle.board.specs.Book.{lineFault, entry}
+use Rattle.board.specs.Book.{lineFault, entry, answerIn}
+use Rattle.board.specs.declared.Fault.{Fault}
 use Rattle.board.specs.declared.Condition.{Condition}
-use Rattle.board.specs.declared.Condition.the-variants.{Line}
 use Rattle.image.specs.Image.{lineCount, recordAt, boardOf}
-use Rattle.image.specs.Refusals.{firstRefusal}
+use Rattle.image.specs.Refusals.{firstRefusal, Accepted}
+use Rattle.image.specs.Promise.{numbers, Promise}
+use Rattle.image.specs.Check.{checkPromise}
+use Rattle.image.specs.declared.Refusal.{Refusal}
+use Rattle.rows.specs.Rows.{rowsPromise}
+use Rattle.rows.specs.Judge.{judgePromise}
+use Rattle.rows.specs.Refresh.{refreshPromise}
+use Rattle.five.specs.Five.{fivePromise}
+use Rattle.find.specs.Find.{findPromise}
+use Rattle.find.specs.Book.{bookPromise}
 use Rattle.alter.specs.Patch.{patched}
+use Rattle.alter.specs.Alter.{alterPromise}
 
--- demand 1, of a call with these refusals in the order tested, which said this, and left this of the buffers that were lent: it is turned
--- away by the number of the first refusal that applies, with the values beside it, and 0 is said only where none applies; and what was
--- lent is unchanged then
-pub record TurnsAway (refusals : List (Option (List ℕ))) (said : List ℕ) (lent left : List (List ℕ)) : Type 0 where
-  pub by-number : (v : List ℕ) → firstRefusal refusals ≡ some v → (said ≡ v) × (0 < getD v 0 0)
-  pub else-0 : firstRefusal refusals ≡ none → getD said 0 1 ≡ 0
-  pub unchanged : (v : List ℕ) → firstRefusal refusals ≡ some v → left ≡ lent
+-- the calls, each with what it promises for what it is given; Show has no refusal, and its own promise
+pub data Call : Promise → Type 0 where
+  Check : (img : List ℕ) → Call (checkPromise img)
+  Rows : (img : List ℕ) (pattern : ℕ) (fault : Fault) (goodRow faultyRow : List ℕ) → Call (rowsPromise img pattern fault goodRow faultyRow)
+  Judge : (img : List ℕ) (pattern : ℕ) (fault : Fault) → Call (judgePromise img pattern fault)
+  Refresh : (img : List ℕ) (pattern line : ℕ) (row : List ℕ) → Call (refreshPromise img pattern line row)
+  Five : (img : List ℕ) (named values : ℕ) (fault : Fault) (row : List ℕ) → Call (fivePromise img named values fault row)
+  Find : (img : List ℕ) (fault : Fault) → Call (findPromise img fault)
+  Book : (img entries : List ℕ) → Call (bookPromise img entries)
+  Alter : (img book : List ℕ) (line : ℕ) (new : List ℕ) → Call (alterPromise img book line new)
+
+-- demand 1, of a call that promised p, said this and left this of what was lent: it is turned away by the numbers of the first refusal that
+-- applies, which do not begin with 0, and then what was lent is unchanged; 0 is said first where none applies
+pub record TurnsAway (p : Promise) (left : List (List ℕ)) (said : List ℕ) : Type 0 where
+  pub by-number : (r : Refusal) → firstRefusal (p .refusals) ≡ some r → (said ≡ numbers r) × (0 < getD said 0 0)
+  pub unchanged : (r : Refusal) → firstRefusal (p .refusals) ≡ some r → left ≡ p .lent
+  pub else-0 : firstRefusal (p .refusals) ≡ none → getD said 0 1 ≡ 0
 
 -- demand 2: under pattern x the good board and the faulty one differ at some output
 abbrev pub DifferSomewhere : Board → Condition → ℕ → Type 0
 DifferSomewhere b φ x = (o : ℕ) × (o among (b .outs)) × (value (good x) b o ≡ value (faulty φ x) b o → ⊥)
 
--- of a line's fault on an image's board: the smallest pattern of the board's inputs that shows it, or none where no pattern does
-abbrev pub SmallestTest : List ℕ → ℕ → ℕ → Option ℕ → Type 0
-SmallestTest s line stuck o = Smallest (shows (boardOf s) (Line line stuck)) (2 ^ inputs (boardOf s)) o
+-- of a fault on an image's board: the smallest pattern of the board's inputs that shows it, or none exactly where no pattern does
+abbrev pub SmallestTest : List ℕ → Fault → Option ℕ → Type 0
+SmallestTest s φ o = Smallest (shows (boardOf s) (having φ)) (2 ^ inputs (boardOf s)) o
 
--- the whole book of an image's board: two numbers a line, each that answer
+-- the whole book of an image's board: two numbers a line, each standing for that answer
 pub record WholeBook (s book : List ℕ) : Type 0 where
   pub long : length book ≡ 2 * lineCount s
-  pub entries : (line stuck : ℕ) → line < lineCount s → stuck < 2 → (o : Option ℕ) × (getD book (2 * line + stuck) 0 ≡ entry o) × SmallestTest s line stuck o
+  pub entries : (line stuck : ℕ) → line < lineCount s → stuck < 2 → SmallestTest s (line at stuck) (answerIn (getD book (2 * line + stuck) 0))
+
+-- how many numbers of a book stand for a pattern
+abbrev pub one : Option ℕ → ℕ
+one none = 0
+one (some p) = 1
+
+abbrev pub patterns : List ℕ → ℕ
+patterns book = ones (map (λ (e : ℕ). one (answerIn e)) book)
 
 -- demand 3, of a line's new record, which turned the image s into t and its book into `later`: the image differs in that one
 -- record, the touched entries are worked out afresh on the new board, and every other one is kept
 pub record BroughtUp (s t : List ℕ) (line : ℕ) (new book later : List ℕ) : Type 0 where
   pub image : t ≡ patched s line new
   pub long : length later ≡ length book
-  pub fresh : (k : ℕ) → k < length book → touched (boardOf s) line (recordAt new 0) (k / 2) ≡ true → getD later k 0 ≡ entry (find (boardOf t) (lineFault k))
-  pub kept : (k : ℕ) → k < length book → touched (boardOf s) line (recordAt new 0) (k / 2) ≡ false → getD later k 0 ≡ getD book k 0
+  pub fresh :
+      (k : ℕ) → k < length book → touched (boardOf s) line (recordAt new 0) (site (lineFault k)) ≡ true
+      → getD later k 0 ≡ entry (find (boardOf t) (lineFault k))
+  pub kept : (k : ℕ) → k < length book → touched (boardOf s) line (recordAt new 0) (site (lineFault k)) ≡ false → getD later k 0 ≡ getD book k 0
