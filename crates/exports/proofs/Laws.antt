@@ -1,2 +1,2 @@
-pub mod Part
-pub mod Pinned
+pub mod Exported
+pub mod Show

@@ -1,2 +1,2 @@
 pub mod Exported
-pub mod Part
+pub mod Show

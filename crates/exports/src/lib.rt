@@ -1,44 +1,29 @@
-// The base's calls for C and Rust: slices and numbers come in, and the numbers of the answer go out. Nothing is asked of an argument.
-mod answers;
-mod part;
-
+// The calls for C and Rust: slices and numbers come in, and the numbers of the answer go out. Nothing is asked of an argument.
+use board::Fault;
 use image::limits::Entry;
-ghost use Rattle.image.specs.Check.{CheckOwes, says};
-ghost use Rattle.image.specs.declared.Checked.{Checked};
-ghost use Rattle.rows.specs.Rows.{RowsOwes, filledSays};
-ghost use Rattle.rows.specs.Judge.{JudgeOwes, judgedSays};
-ghost use Rattle.rows.specs.Refresh.{RefreshOwes};
-ghost use Rattle.rows.specs.declared.Filled.{Filled};
-ghost use Rattle.rows.specs.declared.Judged.{Judged};
-ghost use Rattle.five.specs.Five.{FiveOwes, drivenSays};
-ghost use Rattle.five.specs.declared.Driven.{Driven};
-ghost use Rattle.find.specs.Find.{FindOwes, foundSays};
-ghost use Rattle.find.specs.Book.{BookOwes, countedSays};
-ghost use Rattle.find.specs.declared.Found.{Found};
-ghost use Rattle.find.specs.declared.Counted.{Counted};
-ghost use Rattle.alter.specs.Alter.{AlterOwes};
-ghost use Rattle.exports.specs.Exported.{Exported};
-ghost use Rattle.exports.specs.Part.{PartOwes, partSays};
-ghost use Rattle.exports.specs.declared.part.Part.{Part};
-ghost use lib.Dec.{eqb};
+use image::said::Numbers;
+use image::said::with_two;
+ghost use mathlib.Core.List.{[], _∷_};
 ghost use mathlib.Core.Bool.{not};
-
-// An answer in numbers: 0 or a refusal's number, how many values are returned beside it, and these, with 0 in the unused places.
-#[repr(C)]
-pub struct Answer {
-    pub number: u64,
-    pub values: u64,
-    pub first: u64,
-    pub second: u64,
-    pub third: u64,
-}
+ghost use lib.Dec.{eqb};
+ghost use Rattle.board.specs.Gate.{_at_};
+ghost use Rattle.image.specs.Check.{checkPromise};
+ghost use Rattle.rows.specs.Rows.{rowsPromise};
+ghost use Rattle.rows.specs.Judge.{judgePromise};
+ghost use Rattle.rows.specs.Refresh.{refreshPromise};
+ghost use Rattle.five.specs.Five.{fivePromise};
+ghost use Rattle.find.specs.Find.{findPromise};
+ghost use Rattle.find.specs.Book.{bookPromise};
+ghost use Rattle.alter.specs.Alter.{alterPromise};
+ghost use Rattle.exports.specs.Exported.{Exported};
+ghost use Rattle.exports.specs.Show.{showPromise};
 
 // Check: the line, input and output counts.
 #[no_mangle]
-pub extern "C" fn fortizembo_check(img: &[u8]) -> Answer
-    ensures { λ r. ⌜ Exported Checked says (CheckOwes (now (img .entry))) r ⌝ }
+pub extern "C" fn fortizembo_check(img: &[u8]) -> Numbers
+    ensures { λ r. ⌜ Exported (checkPromise (now (img .entry))) [] r ⌝ }
 {
-    answers::checked(image::check(img))
+    image::said::checked(image::check(img))
 }
 
 // Rows: both rows filled.
@@ -50,18 +35,18 @@ pub extern "C" fn fortizembo_rows(
     stuck: u8,
     good: &mut [u8],
     faulty: &mut [u8],
-) -> Answer
-    ensures { λ r. ⌜ Exported Filled filledSays (λ (o : Filled). RowsOwes (now (img .entry)) pattern line stuck (now (good .entry)) (now (faulty .entry)) o (now (good .exit)) (now (faulty .exit))) r ⌝ }
+) -> Numbers
+    ensures { λ r. ⌜ Exported (rowsPromise (now (img .entry)) pattern (line at stuck) (now (good .entry)) (now (faulty .entry))) (now (good .exit) ∷ now (faulty .exit) ∷ []) r ⌝ }
 {
-    answers::filled(rows::rows(img, pattern, line, stuck, good, faulty))
+    rows::said::filled(rows::rows(img, pattern, Fault { line, stuck }, good, faulty))
 }
 
 // Judge: 1 for yes, 0 for no.
 #[no_mangle]
-pub extern "C" fn fortizembo_judge(img: &[u8], pattern: u64, line: usize, stuck: u8) -> Answer
-    ensures { λ r. ⌜ Exported Judged judgedSays (JudgeOwes (now (img .entry)) pattern line stuck) r ⌝ }
+pub extern "C" fn fortizembo_judge(img: &[u8], pattern: u64, line: usize, stuck: u8) -> Numbers
+    ensures { λ r. ⌜ Exported (judgePromise (now (img .entry)) pattern (line at stuck)) [] r ⌝ }
 {
-    answers::judged(rows::judge(img, pattern, line, stuck))
+    rows::said::judged(rows::judge(img, pattern, Fault { line, stuck }))
 }
 
 // Refresh: the row rewritten from a line on.
@@ -71,10 +56,10 @@ pub extern "C" fn fortizembo_refresh(
     pattern: u64,
     line: usize,
     row: &mut [u8],
-) -> Answer
-    ensures { λ r. ⌜ Exported Filled filledSays (λ (o : Filled). RefreshOwes (now (img .entry)) pattern line (now (row .entry)) o (now (row .exit))) r ⌝ }
+) -> Numbers
+    ensures { λ r. ⌜ Exported (refreshPromise (now (img .entry)) pattern line (now (row .entry))) (now (row .exit) ∷ []) r ⌝ }
 {
-    answers::filled(rows::refresh(img, pattern, line, row))
+    rows::said::filled(rows::refresh(img, pattern, line, row))
 }
 
 // Show: where that very part begins in the row that is asked for, and its length. Any number but 0 asks for the faulty row.
@@ -84,10 +69,12 @@ pub extern "C" fn fortizembo_show<'a>(
     faulty: &'a [u8],
     wants_faulty: u8,
     start: usize,
-) -> Answer
-    ensures { λ r. ⌜ Exported Part partSays (PartOwes (now (good .entry)) (now (faulty .entry)) (not (eqb «wants_faulty» 0)) start) r ⌝ }
+) -> Numbers
+    ensures { λ r. ⌜ Exported (showPromise (now (good .entry)) (now (faulty .entry)) (not (eqb «wants_faulty» 0)) start) [] r ⌝ }
 {
-    answers::shown(part::locate(good, faulty, wants_faulty != 0, start))
+    let length = rows::show(good, faulty, wants_faulty != 0, start).len();
+    let whole = rows::show(good, faulty, wants_faulty != 0, 0).len();
+    with_two(0, (whole - length) as u64, length as u64)
 }
 
 // Five values: the row filled, and how many output lines hold D or D-bar.
@@ -99,26 +86,26 @@ pub extern "C" fn fortizembo_five(
     line: usize,
     stuck: u8,
     row: &mut [u8],
-) -> Answer
-    ensures { λ r. ⌜ Exported Driven drivenSays (λ (o : Driven). FiveOwes (now (img .entry)) named values line stuck (now (row .entry)) o (now (row .exit))) r ⌝ }
+) -> Numbers
+    ensures { λ r. ⌜ Exported (fivePromise (now (img .entry)) named values (line at stuck) (now (row .entry))) (now (row .exit) ∷ []) r ⌝ }
 {
-    answers::driven(five::five(img, named, values, line, stuck, row))
+    five::said::driven(five::five(img, named, values, Fault { line, stuck }, row))
 }
 
 // Find: the smallest pattern, or no value for none.
 #[no_mangle]
-pub extern "C" fn fortizembo_find(img: &[u8], line: usize, stuck: u8) -> Answer
-    ensures { λ r. ⌜ Exported Found foundSays (FindOwes (now (img .entry)) line stuck) r ⌝ }
+pub extern "C" fn fortizembo_find(img: &[u8], line: usize, stuck: u8) -> Numbers
+    ensures { λ r. ⌜ Exported (findPromise (now (img .entry)) (line at stuck)) [] r ⌝ }
 {
-    answers::found(find::find(img, line, stuck))
+    find::said::found(find::find(img, Fault { line, stuck }))
 }
 
 // Book: the book filled, and how many entries are not none.
 #[no_mangle]
-pub extern "C" fn fortizembo_book(img: &[u8], entries: &mut [Entry]) -> Answer
-    ensures { λ r. ⌜ Exported Counted countedSays (λ (o : Counted). BookOwes (now (img .entry)) (now (entries .entry)) o (now (entries .exit))) r ⌝ }
+pub extern "C" fn fortizembo_book(img: &[u8], entries: &mut [Entry]) -> Numbers
+    ensures { λ r. ⌜ Exported (bookPromise (now (img .entry)) (now (entries .entry))) (now (entries .exit) ∷ []) r ⌝ }
 {
-    answers::counted(find::book(img, entries))
+    find::said::counted(find::book(img, entries))
 }
 
 // Alter: image and book brought up to date, and how many entries are then not none.
@@ -128,8 +115,8 @@ pub extern "C" fn fortizembo_alter(
     book: &mut [Entry],
     line: usize,
     record: &[u8; 10],
-) -> Answer
-    ensures { λ r. ⌜ Exported Counted countedSays (λ (o : Counted). AlterOwes (now (img .entry)) (now (book .entry)) line (now («record» .entry)) o (now (img .exit)) (now (book .exit))) r ⌝ }
+) -> Numbers
+    ensures { λ r. ⌜ Exported (alterPromise (now (img .entry)) (now (book .entry)) line (now («record» .entry))) (now (img .exit) ∷ now (book .exit) ∷ []) r ⌝ }
 {
-    answers::counted(alter::alter(img, book, line, *record))
+    find::said::counted(alter::alter(img, book, line, *record))
 }

@@ -1,0 +1,12 @@
+-- Any two outcomes that an exported call's promise allows are equal, the answer and what was lent: what is said is settled, and crosses alike.
+use mathlib.Core.Path.{_≡_, sym, ap, _∙_}
+use mathlib.Core.List.{List}
+use Prim.Native.Nat.{ℕ}
+use Rattle.image.specs.Promise.{Promise, packed}
+use Rattle.image.specs.declared.said.Numbers.{Numbers}
+use Rattle.exports.specs.Exported.{Exported}
+
+pub exported-pinned : (p : Promise) (a b : Numbers) (left later : List (List ℕ)) → Exported p left a → Exported p later b → (a ≡ b) × (left ≡ later)
+exported-pinned p a b left later x y =
+    let same = x .owed .answers ∙ sym (y .owed .answers) in
+    (x .crosses ∙ ap packed same ∙ sym (y .crosses), x .owed .leaves ∙ sym (y .owed .leaves))
