@@ -3,7 +3,7 @@ use mathlib.Core.List.{List, [], _∷_, _++_}
 use Prim.Native.Nat.{ℕ, _/_, _%_}
 use Rattle.io.specs.Digits.{glyph}
 use Rattle.board.specs.Lists.{text}
-use Rattle.report.specs.Text.{decimal}
+use Rattle.text.specs.Text.{decimal}
 
 -- two digits a byte, lower case
 unfoldable pub hexText : List ℕ → List ℕ

@@ -3,7 +3,7 @@ ghost use mathlib.Core.Path.{_≡_};
 ghost use Prim.Native.Nat.{_*_, _≤_, _<_};
 ghost use lib.ListN.{length};
 ghost use Rattle.io.specs.Digits.{glyph};
-ghost use Rattle.report.specs.Text.{Written};
+ghost use Rattle.text.specs.Text.{Written};
 ghost use Rattle.ports.specs.Texts.{hexText};
 
 // A digit, lower case.

@@ -1,8 +1,8 @@
 // A book's numbers as text.
-use report::put::put_number;
+use text::put::put_number;
 ghost use Prim.Native.Nat.{_*_, _≤_};
 ghost use lib.ListN.{length};
-ghost use Rattle.report.specs.Text.{Written};
+ghost use Rattle.text.specs.Text.{Written};
 ghost use Rattle.ports.specs.Texts.{numbersText};
 
 // Each number behind a space.

@@ -1,13 +1,13 @@
 // The lines of the book as text.
-use crate::form::spell;
-use crate::put::put;
 use image::Refusal;
+use text::form::spell;
+use text::put::put;
 ghost use mathlib.Core.Path.{_≡_};
 ghost use mathlib.Core.Option.{none, some};
 ghost use Prim.Native.Nat.{_≤_, _<_};
 ghost use lib.ListN.{length, getD};
 ghost use Rattle.image.specs.Check.{number};
-ghost use Rattle.report.specs.Text.{Written};
+ghost use Rattle.text.specs.Text.{Written};
 ghost use Rattle.report.specs.Lines.{headerText, entryText, totalText, refusedText};
 
 // A line as it stands.

@@ -8,7 +8,7 @@ use lib.ListN.{length, getD, take, drop, set, length-set}
 use lib.Seq.{drop-cons, take-suc-set, drop-length}
 use Rattle.io.specs.Digits.{glyph}
 use Rattle.board.specs.Lists.{text}
-use Rattle.report.specs.Text.{decimal}
+use Rattle.text.specs.Text.{decimal}
 use Rattle.ports.specs.Texts.{hexText, numbersText}
 
 -- one byte more, in two digits

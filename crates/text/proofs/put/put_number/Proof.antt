@@ -1,15 +1,15 @@
--- `report::put::put_number` meets its contract: the digits are the fewest that hold the number.
+-- `text::put::put_number` meets its contract: the digits are the fewest that hold the number.
 use mathlib.Core.Path.{ap, _∙_}
 use mathlib.Core.List.{List, _++_}
 use Prim.Native.Nat.{ℕ, _≤_}
 use native.Mathlib.Omega.{arith}
 use lib.ListN.{take}
 use Rattle.io.specs.Digits.{digits}
-use Rattle.report.specs.Text.{decimal}
-use Rattle.report.proofs.Laws.Text.{fewest-short, fewest-places}
+use Rattle.text.specs.Text.{decimal}
+use Rattle.text.proofs.Laws.Text.{fewest-short, fewest-places}
 use borrow.Author.Needs.{needs}
-use Rattle.report.proofs.put.put_number.Statement.{statement}
-use Rattle.report.proofs.put.put_number.Tie as tie
+use Rattle.text.proofs.put.put_number.Statement.{statement}
+use Rattle.text.proofs.put.put_number.Tie as tie
 
 short : (c : tie.After-decimal) → c .decimal .result ≤ 20
 short c = let start = c .before .before .before in fewest-short (start .args .n) (c .decimal .result) (start .fits .n .fits) (c .decimal .ensures .1 .0)

@@ -14,7 +14,7 @@ use borrow.Author.Tests.{lt-ltb, le-ltb, leb-true, leb-false}
 use Rattle.io.specs.Digits.{Fewest}
 use Rattle.board.proofs.Lists.{way}
 use Rattle.board.proofs.Search.{first-at}
-use Rattle.report.specs.Text.{places}
+use Rattle.text.specs.Text.{places}
 
 -- one byte more
 pub put-next : (out start bytes : List ℕ) (at i : ℕ) → at + i < length out → i < length bytes → take (at + i) out ≡ start ++ take i bytes

@@ -1,9 +1,9 @@
--- `report::put::keep_last` meets its contract: the bytes go by way of a buffer of twelve.
+-- `text::put::keep_last` meets its contract: the bytes go by way of a buffer of twelve.
 use mathlib.Core.Path.{refl, sym, _∙_}
-use Rattle.report.proofs.Laws.Text.{brought}
+use Rattle.text.proofs.Laws.Text.{brought}
 use borrow.Author.Needs.{needs}
-use Rattle.report.proofs.put.keep_last.Statement.{statement}
-use Rattle.report.proofs.put.keep_last.Tie as tie
+use Rattle.text.proofs.put.keep_last.Statement.{statement}
+use Rattle.text.proofs.put.keep_last.Tie as tie
 
 add-end : tie.Need-add-end
 add-end c = search needs

@@ -1,17 +1,17 @@
--- `report::form::spell` meets its contract: what is made, and what the rest of the form spells, is the whole line.
+-- `text::form::spell` meets its contract: what is made, and what the rest of the form spells, is the whole line.
 use mathlib.Core.Path.{_≡_, refl, _∙_}
 use mathlib.Core.List.{_++_}
 use Prim.Native.Nat.{_+_, _*_, _-_, _≤_, _<_}
 use native.Mathlib.Omega.{arith}
 use lib.ListN.{length, take, drop, length-set}
-use Rattle.report.specs.Text.{spelled}
-use Rattle.report.proofs.Laws.Form.{numbered, number-next, byte-next, at-end}
+use Rattle.text.specs.Text.{spelled}
+use Rattle.text.proofs.Laws.Form.{numbered, number-next, byte-next, at-end}
 use borrow.Author.Needs.{needs}
-use Rattle.report.proofs.form.spell.Statement.{statement}
-use Rattle.report.proofs.form.spell.Tie as tie
-use Rattle.report.proofs.form.spell.Reads as reads
-use Rattle.report.proofs.form.spell.Lts as lts
-use Rattle.report.proofs.put.put_number.Reads as put-number-reads
+use Rattle.text.proofs.form.spell.Statement.{statement}
+use Rattle.text.proofs.form.spell.Tie as tie
+use Rattle.text.proofs.form.spell.Reads as reads
+use Rattle.text.proofs.form.spell.Lts as lts
+use Rattle.text.proofs.put.put_number.Reads as put-number-reads
 
 abbrev Inv-loop : tie.InvT-loop
 Inv-loop form numbers out₀ at₀ k₀ i₀ out at k i =

@@ -1,8 +1,8 @@
-// A line from its form: the form's bytes, with a number in decimal in the place of each #.
+// A line from its form: the form's bytes, with a number in decimal for each #.
 use crate::put::put_number;
 ghost use Prim.Native.Nat.{_+_, _*_, _≤_};
 ghost use lib.ListN.{length};
-ghost use Rattle.report.specs.Text.{Written, spelled};
+ghost use Rattle.text.specs.Text.{Written, spelled};
 
 // Spells a form out with its numbers, and gives how long the line is.
 pub fn spell(form: &[u8], numbers: &[u64], out: &mut [u8]) -> usize

@@ -4,9 +4,11 @@ use mathlib.Core.Option.{Option·getD}
 use mathlib.Core.List.{List, [], _∷_, _++_}
 use mathlib.Core.Bool.{cond}
 use Prim.Native.Nat.{ℕ, suc, _^_, _≤_}
+use Prim.Native.String.{String}
 use lib.Dec.{ltb, eqb}
 use lib.ListN.{length, take}
 use Rattle.io.specs.Digits.{digits}
+use Rattle.board.specs.Lists.{text}
 use Rattle.board.specs.Test.{first}
 
 -- how many digits a number of 64 bits has
@@ -18,14 +20,18 @@ unfoldable pub decimal : ℕ → List ℕ
 decimal n = digits 10 (places n) n
 
 -- the byte of a form where a number goes, #
-abbrev pub place : ℕ
-place = 35
+abbrev pub gap : ℕ
+gap = 35
 
--- a form with numbers in their places, each in decimal
+-- a form with numbers in its gaps, each in decimal
 abbrev pub spelled : List ℕ → List ℕ → List ℕ
 spelled [] ns = []
 spelled (c ∷ cs) [] = c ∷ spelled cs []
-spelled (c ∷ cs) (n ∷ ns) = cond (eqb c place) (decimal n ++ spelled cs ns) (c ∷ spelled cs (n ∷ ns))
+spelled (c ∷ cs) (n ∷ ns) = cond (eqb c gap) (decimal n ++ spelled cs ns) (c ∷ spelled cs (n ∷ ns))
+
+-- a quoted form, with its numbers
+abbrev pub form : String → List ℕ → List ℕ
+form f ns = spelled (text f) ns
 
 -- the first r bytes of a buffer are the text
 pub record Written (r : ℕ) (out : List ℕ) (t : List ℕ) : Type 0 where

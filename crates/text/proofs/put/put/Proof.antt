@@ -1,4 +1,4 @@
--- `report::put::put` meets its contract: after i bytes, the first i stand behind the start.
+-- `text::put::put` meets its contract: after i bytes, the first i stand behind the start.
 use mathlib.Core.Path.{_≡_, refl, ap, _∙_}
 use mathlib.Core.List.{_++_, append-nil}
 use Prim.Native.Nat.{ℕ, _+_, _-_, _≤_, _<_}
@@ -6,10 +6,10 @@ use native.Mathlib.Nat.{add-zero}
 use native.Mathlib.Omega.{arith}
 use lib.ListN.{length, take, length-set}
 use lib.Seq.{take-length}
-use Rattle.report.proofs.Laws.Text.{put-next}
+use Rattle.text.proofs.Laws.Text.{put-next}
 use borrow.Author.Needs.{needs}
-use Rattle.report.proofs.put.put.Statement.{statement}
-use Rattle.report.proofs.put.put.Tie as tie
+use Rattle.text.proofs.put.put.Statement.{statement}
+use Rattle.text.proofs.put.put.Tie as tie
 
 abbrev Inv-loop : tie.InvT-loop
 Inv-loop bytes out₀ at i₀ out i = (i ≤ length bytes) × (length out ≡ length out₀) × (take (at + i) out ≡ take at out₀ ++ take i bytes)

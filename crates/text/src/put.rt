@@ -3,7 +3,7 @@ ghost use mathlib.Core.Path.{_≡_};
 ghost use mathlib.Core.List.{_++_};
 ghost use Prim.Native.Nat.{_+_, _≤_};
 ghost use lib.ListN.{length, take, drop};
-ghost use Rattle.report.specs.Text.{decimal};
+ghost use Rattle.text.specs.Text.{decimal};
 
 // Puts bytes behind the first `at` of a buffer, and gives where they end.
 pub fn put(bytes: &[u8], out: &mut [u8], at: usize) -> usize
