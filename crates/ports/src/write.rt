@@ -1,7 +1,8 @@
 // Answers on standard output. A long one is written in pieces.
-use crate::hex::hex_text;
-use crate::numbers::numbers_text;
+use image::limits::Entry;
 use libc::STDOUT_FILENO;
+use text::hex::hex_text;
+use text::numbers::numbers_text;
 ghost use mathlib.Core.Path.{_≡_};
 ghost use Prim.Native.Nat.{_-_, _≤_, _<_};
 ghost use lib.ListN.{length};
@@ -61,14 +62,14 @@ fn write_digits(bytes: &[u8]) {
 }
 
 // Writes the word entries, and the numbers of a book, each behind a space.
-pub fn write_entries(book: &[u32]) {
+pub fn write_entries(book: &[Entry]) {
     write_plain(b"entries");
     write_numbers(book);
     write_plain(b"\n");
 }
 
 // Writes numbers, each behind a space.
-fn write_numbers(numbers: &[u32]) {
+fn write_numbers(numbers: &[Entry]) {
     let mut out = io::buffer();
     let mut at = 0;
     while at < numbers.len() {

@@ -1,2 +1,4 @@
-pub mod Text
+pub mod Made
+pub mod Decimal
 pub mod Form
+pub mod Each

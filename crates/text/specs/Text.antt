@@ -3,11 +3,11 @@ use mathlib.Core.Path.{_≡_}
 use mathlib.Core.Option.{Option·getD}
 use mathlib.Core.List.{List, [], _∷_, _++_}
 use mathlib.Core.Bool.{cond}
-use Prim.Native.Nat.{ℕ, suc, _^_, _≤_}
+use Prim.Native.Nat.{ℕ, suc, _/_, _%_, _^_, _≤_}
 use Prim.Native.String.{String}
 use lib.Dec.{ltb, eqb}
 use lib.ListN.{length, take}
-use Rattle.io.specs.Digits.{digits}
+use Rattle.io.specs.Digits.{digits, glyph}
 use Rattle.board.specs.Lists.{text}
 use Rattle.board.specs.Test.{first}
 
@@ -32,6 +32,19 @@ spelled (c ∷ cs) (n ∷ ns) = cond (eqb c gap) (decimal n ++ spelled cs ns) (c
 -- a quoted form, with its numbers
 abbrev pub form : String → List ℕ → List ℕ
 form f ns = spelled (text f) ns
+
+-- the texts of numbers, one after the other
+unfoldable pub each : (ℕ → List ℕ) → List ℕ → List ℕ
+each f [] = []
+each f (n ∷ ns) = f n ++ each f ns
+
+-- a byte in two digits, lower case
+abbrev pub twoDigits : ℕ → List ℕ
+twoDigits b = glyph (b / 16) ∷ glyph (b % 16) ∷ []
+
+-- a number in decimal, behind a space
+abbrev pub spaced : ℕ → List ℕ
+spaced n = text " " ++ decimal n
 
 -- the first r bytes of a buffer are the text
 pub record Written (r : ℕ) (out : List ℕ) (t : List ℕ) : Type 0 where

@@ -5,13 +5,11 @@ use Prim.Native.Nat.{_+_, _*_, _-_, _≤_, _<_}
 use native.Mathlib.Omega.{arith}
 use lib.ListN.{length, take, drop, length-set}
 use Rattle.text.specs.Text.{spelled}
-use Rattle.text.proofs.Laws.Form.{numbered, number-next, byte-next, at-end}
+use Rattle.text.proofs.Laws.Made.{next, finished, one-more}
+use Rattle.text.proofs.Laws.Form.{number-there, at-gap, at-byte, at-end}
 use borrow.Author.Needs.{needs}
 use Rattle.text.proofs.form.spell.Statement.{statement}
 use Rattle.text.proofs.form.spell.Tie as tie
-use Rattle.text.proofs.form.spell.Reads as reads
-use Rattle.text.proofs.form.spell.Lts as lts
-use Rattle.text.proofs.put.put_number.Reads as put-number-reads
 
 abbrev Inv-loop : tie.InvT-loop
 Inv-loop form numbers out₀ at₀ k₀ i₀ out at k i =
@@ -26,44 +24,35 @@ there : (c : tie.Then1 Inv-loop μ-loop) → c .before .before .before .loop .k 
 there c =
     let at-loop = c .before .before .before in
     let start = at-loop .before .before .before .before in
-    numbered (start .args .form .now) (start .args .numbers .now) (at-loop .loop .i) (at-loop .loop .k) (c .if1 .taken)
+    number-there (start .args .form .now) (start .args .numbers .now) (at-loop .loop .i) (at-loop .loop .k) (c .if1 .taken)
 
--- src/form.rt:15:5
 loop-holds : tie.Need-loop-holds Inv-loop μ-loop
 loop-holds c = (search needs, search needs, search needs, refl, refl)
 
--- src/form.rt:16:13
 shared-slice-read-if1 : tie.Need-shared-slice-read-if1 Inv-loop μ-loop
 shared-slice-read-if1 c = search needs
 
--- src/form.rt:17:29
 mul-put-number : tie.Need-mul-put-number Inv-loop μ-loop
 mul-put-number c = search needs
 
--- src/form.rt:17:29
 shared-slice-read-put-number : tie.Need-shared-slice-read-put-number Inv-loop μ-loop
 shared-slice-read-put-number c = there (c .before)
 
--- src/form.rt:17:13
 put-number-requires : tie.Need-put-number-requires Inv-loop μ-loop
 put-number-requires c κs =
     let then = c .before .before in
     let at-loop = then .before .before .before in
     omega (arith, there then, at-loop .loop .inv, at-loop .before .before .before .before .pre)
 
--- src/form.rt:18:13
 add-k : tie.Need-add-k Inv-loop μ-loop
 add-k c = search needs
 
--- src/form.rt:19:13
 add-i : tie.Need-add-i Inv-loop μ-loop
 add-i c = search needs
 
--- src/form.rt:15:5
 loop-less : tie.Need-loop-less Inv-loop μ-loop
 loop-less c = search needs
 
--- src/form.rt:15:5
 loop-again : tie.Need-loop-again Inv-loop μ-loop
 loop-again c =
     let put = c .before .before in
@@ -75,30 +64,24 @@ loop-again c =
       search needs,
       omega (arith, put .put-number .ensures .1, at-loop .loop .inv .2),
       put .put-number .kept .1 .0 ∙ at-loop .loop .inv .3,
-      number-next (start .args .form .now) (start .args .numbers .now) (at-loop .loop .i) (at-loop .loop .k) (then .before .before .loop-test .taken) _ (at-loop .loop .out) (put .put-number .last .1 .0) (at-loop .loop .at) (put .put-number .result) (then .if1 .taken) (at-loop .loop .inv .4) (put .put-number .ensures .2),
+      next _ (take (at-loop .loop .at) (at-loop .loop .out)) _ (at-loop .loop .inv .4) _ _ _ (at-gap (start .args .form .now) (start .args .numbers .now) (at-loop .loop .i) (at-loop .loop .k) (then .before .before .loop-test .taken) (then .if1 .taken)) (put .put-number .ensures .2),
     )
 
--- src/form.rt:22:19
 shared-slice-read-out : tie.Need-shared-slice-read-out Inv-loop μ-loop
 shared-slice-read-out c = search needs
 
--- src/form.rt:22:9
 slice-write-out : tie.Need-slice-write-out Inv-loop μ-loop
 slice-write-out c = search needs
 
--- src/form.rt:23:9
 add-at : tie.Need-add-at Inv-loop μ-loop
 add-at c = search needs
 
--- src/form.rt:24:9
 add-i-2 : tie.Need-add-i-2 Inv-loop μ-loop
 add-i-2 c = search needs
 
--- src/form.rt:15:5
 loop-less-2 : tie.Need-loop-less-2 Inv-loop μ-loop
 loop-less-2 c = search needs
 
--- src/form.rt:15:5
 loop-again-2 : tie.Need-loop-again-2 Inv-loop μ-loop
 loop-again-2 c =
     let at-loop = c .before .before .before .before in
@@ -108,21 +91,19 @@ loop-again-2 c =
       search needs,
       search needs,
       length-set (at-loop .loop .out) _ _ ∙ at-loop .loop .inv .3,
-      byte-next (start .args .form .now) (start .args .numbers .now) (at-loop .loop .i) (at-loop .loop .k) (c .before .before .before .loop-test .taken) _ (at-loop .loop .out) (at-loop .loop .at) room (at-loop .loop .inv .1) (c .before .if1 .left) (at-loop .loop .inv .4),
+      next _ (take (at-loop .loop .at) (at-loop .loop .out)) _ (at-loop .loop .inv .4) _ _ _ (at-byte (start .args .form .now) (start .args .numbers .now) (at-loop .loop .i) (at-loop .loop .k) (c .before .before .before .loop-test .taken) (at-loop .loop .inv .1) (c .before .if1 .left)) (one-more (at-loop .loop .out) (at-loop .loop .at) _ room),
     )
 
--- src/form.rt:8:1
 same-length : tie.Need-same-length Inv-loop μ-loop
 same-length c = search needs
 
--- src/form.rt:8:1
 returns : tie.Need-returns Inv-loop μ-loop
 returns c =
     let at-loop = c .before in
     let start = at-loop .before .before .before .before in
     record {
       room = omega (arith, at-loop .loop .inv, start .pre);
-      is = at-end (start .args .form .now) (start .args .numbers .now) _ _ (at-loop .loop .i) (at-loop .loop .k) (omega (arith, c .loop-test .left)) (at-loop .loop .inv .4);
+      is = finished _ _ _ (at-loop .loop .inv .4) (at-end (start .args .form .now) (start .args .numbers .now) (at-loop .loop .i) (at-loop .loop .k) (omega (arith, c .loop-test .left)));
     }
 
 pub spell-spec : {M : Type 1} → statement M

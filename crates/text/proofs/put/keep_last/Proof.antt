@@ -1,6 +1,6 @@
 -- `text::put::keep_last` meets its contract: the bytes go by way of a buffer of twelve.
 use mathlib.Core.Path.{refl, sym, _∙_}
-use Rattle.text.proofs.Laws.Text.{brought}
+use Rattle.text.proofs.Laws.Made.{brought}
 use borrow.Author.Needs.{needs}
 use Rattle.text.proofs.put.keep_last.Statement.{statement}
 use Rattle.text.proofs.put.keep_last.Tie as tie

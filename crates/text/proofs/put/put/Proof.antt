@@ -6,7 +6,7 @@ use native.Mathlib.Nat.{add-zero}
 use native.Mathlib.Omega.{arith}
 use lib.ListN.{length, take, length-set}
 use lib.Seq.{take-length}
-use Rattle.text.proofs.Laws.Text.{put-next}
+use Rattle.text.proofs.Laws.Made.{put-next}
 use borrow.Author.Needs.{needs}
 use Rattle.text.proofs.put.put.Statement.{statement}
 use Rattle.text.proofs.put.put.Tie as tie

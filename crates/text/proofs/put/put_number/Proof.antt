@@ -6,7 +6,7 @@ use native.Mathlib.Omega.{arith}
 use lib.ListN.{take}
 use Rattle.io.specs.Digits.{digits}
 use Rattle.text.specs.Text.{decimal}
-use Rattle.text.proofs.Laws.Text.{fewest-short, fewest-places}
+use Rattle.text.proofs.Laws.Decimal.{fewest-short, fewest-places}
 use borrow.Author.Needs.{needs}
 use Rattle.text.proofs.put.put_number.Statement.{statement}
 use Rattle.text.proofs.put.put_number.Tie as tie

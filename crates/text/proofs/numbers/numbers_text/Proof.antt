@@ -1,17 +1,18 @@
--- `ports::numbers::numbers_text` meets its contract: what is made, and the text of the numbers left, is the whole text.
+-- `text::numbers::numbers_text` meets its contract: what is made, and the text of the numbers left, is the whole text.
 use mathlib.Core.Path.{_≡_, refl, _∙_}
-use mathlib.Core.List.{_++_}
+use mathlib.Core.List.{_++_, append-assoc}
 use Prim.Native.Nat.{_+_, _*_, _-_, _≤_, _<_}
 use native.Mathlib.Omega.{arith}
 use lib.ListN.{length, take, drop, length-set}
-use Rattle.ports.specs.Texts.{numbersText}
-use Rattle.ports.proofs.Laws.Texts.{numbers-next, numbers-end}
+use Rattle.text.specs.Text.{each, spaced}
+use Rattle.text.proofs.Laws.Made.{next, finished, one-more}
+use Rattle.text.proofs.Laws.Each.{each-at, each-past}
 use borrow.Author.Needs.{needs}
-use Rattle.ports.proofs.numbers.numbers_text.Statement.{statement}
-use Rattle.ports.proofs.numbers.numbers_text.Tie as tie
+use Rattle.text.proofs.numbers.numbers_text.Statement.{statement}
+use Rattle.text.proofs.numbers.numbers_text.Tie as tie
 
 abbrev Inv-loop : tie.InvT-loop
-Inv-loop numbers out₀ at₀ i₀ out at i = (i ≤ length numbers) × (at ≤ 21 * i) × (length out ≡ length out₀) × (numbersText numbers ≡ take at out ++ numbersText (drop i numbers))
+Inv-loop numbers out₀ at₀ i₀ out at i = (i ≤ length numbers) × (at ≤ 21 * i) × (length out ≡ length out₀) × (each spaced numbers ≡ take at out ++ each spaced (drop i numbers))
 
 abbrev μ-loop : tie.MeasureT-loop
 μ-loop numbers out₀ at₀ i₀ out at i = length numbers - i
@@ -56,7 +57,8 @@ loop-again c =
       search needs,
       omega (arith, made .put-number .ensures .1, at-loop .loop .inv .1),
       made .put-number .kept .1 .0 ∙ length-set (at-loop .loop .out) _ _ ∙ at-loop .loop .inv .2,
-      numbers-next numbers (numbersText numbers) (at-loop .loop .out) (made .put-number .last .1 .0) (at-loop .loop .at) (at-loop .loop .i) (made .put-number .result) (inside .loop-test .taken) room (at-loop .loop .inv .3) (made .put-number .ensures .2),
+      next _ (take (at-loop .loop .at) (at-loop .loop .out)) _ (at-loop .loop .inv .3) _ _ _ (each-at spaced numbers (at-loop .loop .i) (inside .loop-test .taken))
+          (rw (one-more (at-loop .loop .out) (at-loop .loop .at) _ room) at (made .put-number .ensures .2) ∙ append-assoc (take (at-loop .loop .at) (at-loop .loop .out)) _ _),
     )
 
 same-length : tie.Need-same-length Inv-loop μ-loop
@@ -68,7 +70,7 @@ returns c =
     let start = at-loop .before .before .before in
     record {
       room = omega (arith, at-loop .loop .inv, start .pre);
-      is = numbers-end (start .args .numbers .now) _ _ (at-loop .loop .i) (omega (arith, c .loop-test .left)) (at-loop .loop .inv .3);
+      is = finished _ _ _ (at-loop .loop .inv .3) (each-past spaced (start .args .numbers .now) (at-loop .loop .i) (omega (arith, c .loop-test .left)));
     }
 
 pub numbers-text-spec : {M : Type 1} → statement M

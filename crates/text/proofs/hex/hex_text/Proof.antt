@@ -1,17 +1,18 @@
--- `ports::hex::hex_text` meets its contract: what is made, and the text of the bytes left, is the whole text.
+-- `text::hex::hex_text` meets its contract: what is made, and the text of the bytes left, is the whole text.
 use mathlib.Core.Path.{_≡_, refl, _∙_}
 use mathlib.Core.List.{_++_}
 use Prim.Native.Nat.{_+_, _*_, _-_, _≤_, _<_}
 use native.Mathlib.Omega.{arith}
 use lib.ListN.{length, take, drop, set, length-set}
-use Rattle.ports.specs.Texts.{hexText}
-use Rattle.ports.proofs.Laws.Texts.{hex-next, hex-end}
+use Rattle.text.specs.Text.{each, twoDigits}
+use Rattle.text.proofs.Laws.Made.{next, finished, two-more}
+use Rattle.text.proofs.Laws.Each.{each-at, each-past}
 use borrow.Author.Needs.{needs}
-use Rattle.ports.proofs.hex.hex_text.Statement.{statement}
-use Rattle.ports.proofs.hex.hex_text.Tie as tie
+use Rattle.text.proofs.hex.hex_text.Statement.{statement}
+use Rattle.text.proofs.hex.hex_text.Tie as tie
 
 abbrev Inv-loop : tie.InvT-loop
-Inv-loop bytes out₀ i₀ out i = (i ≤ length bytes) × (length out ≡ length out₀) × (hexText bytes ≡ take (2 * i) out ++ hexText (drop i bytes))
+Inv-loop bytes out₀ i₀ out i = (i ≤ length bytes) × (length out ≡ length out₀) × (each twoDigits bytes ≡ take (2 * i) out ++ each twoDigits (drop i bytes))
 
 abbrev μ-loop : tie.MeasureT-loop
 μ-loop bytes out₀ i₀ out i = length bytes - i
@@ -65,7 +66,7 @@ loop-again c =
     let room : 2 * i + 1 < length (at-loop .loop .out) = omega (arith, start .pre, at-loop .loop .inv .1) in (
       search needs,
       length-set (set (at-loop .loop .out) _ _) _ _ ∙ length-set (at-loop .loop .out) _ _ ∙ at-loop .loop .inv .1,
-      rw (first .digit .ensures, c .digit2 .ensures) (hex-next bytes (hexText bytes) (at-loop .loop .out) i inside room (at-loop .loop .inv .2)),
+      rw (first .digit .ensures, c .digit2 .ensures) (next _ (take (2 * i) (at-loop .loop .out)) _ (at-loop .loop .inv .2) _ _ _ (each-at twoDigits bytes i inside) (two-more (at-loop .loop .out) i _ _ room)),
     )
 
 mul-result : tie.Need-mul-result Inv-loop μ-loop
@@ -80,7 +81,7 @@ returns c =
     let start = at-loop .before .before .before in
     record {
       room = omega (arith, at-loop .loop .inv, start .pre);
-      is = hex-end (start .args .bytes .now) _ _ (at-loop .loop .i) (omega (arith, c .loop-test .left)) (at-loop .loop .inv .2);
+      is = finished _ _ _ (at-loop .loop .inv .2) (each-past twoDigits (start .args .bytes .now) (at-loop .loop .i) (omega (arith, c .loop-test .left)));
     }
 
 pub hex-text-spec : {M : Type 1} → statement M

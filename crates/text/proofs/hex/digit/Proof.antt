@@ -1,8 +1,8 @@
--- `ports::hex::digit` meets its contract, by which side of ten the digit is.
+-- `text::hex::digit` meets its contract, by which side of ten the digit is.
 use borrow.Author.Tests.{lt-ltb, le-ltb}
 use borrow.Author.Needs.{needs}
-use Rattle.ports.proofs.hex.digit.Statement.{statement}
-use Rattle.ports.proofs.hex.digit.Tie as tie
+use Rattle.text.proofs.hex.digit.Statement.{statement}
+use Rattle.text.proofs.hex.digit.Tie as tie
 
 add-result : tie.Need-add-result
 add-result c = search needs

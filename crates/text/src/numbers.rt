@@ -1,14 +1,14 @@
 // A book's numbers as text.
-use text::put::put_number;
+use crate::put::put_number;
+use image::limits::Entry;
 ghost use Prim.Native.Nat.{_*_, _≤_};
 ghost use lib.ListN.{length};
-ghost use Rattle.text.specs.Text.{Written};
-ghost use Rattle.ports.specs.Texts.{numbersText};
+ghost use Rattle.text.specs.Text.{Written, each, spaced};
 
 // Each number behind a space.
-pub fn numbers_text(numbers: &[u32], out: &mut [u8]) -> usize
+pub fn numbers_text(numbers: &[Entry], out: &mut [u8]) -> usize
     requires { ⌜ 21 * length (now numbers) ≤ length (now out) ⌝ }
-    ensures { λ r. ⌜ Written r (now (out .exit)) (numbersText (now (numbers .entry))) ⌝ }
+    ensures { λ r. ⌜ Written r (now (out .exit)) (each spaced (now (numbers .entry))) ⌝ }
 {
     let mut at = 0;
     let mut i = 0;

@@ -3,8 +3,7 @@ ghost use mathlib.Core.Path.{_≡_};
 ghost use Prim.Native.Nat.{_*_, _≤_, _<_};
 ghost use lib.ListN.{length};
 ghost use Rattle.io.specs.Digits.{glyph};
-ghost use Rattle.text.specs.Text.{Written};
-ghost use Rattle.ports.specs.Texts.{hexText};
+ghost use Rattle.text.specs.Text.{Written, each, twoDigits};
 
 // A digit, lower case.
 fn digit(d: u8) -> u8
@@ -17,7 +16,7 @@ fn digit(d: u8) -> u8
 // Two digits a byte.
 pub fn hex_text(bytes: &[u8], out: &mut [u8]) -> usize
     requires { ⌜ 2 * length (now bytes) ≤ length (now out) ⌝ }
-    ensures { λ r. ⌜ Written r (now (out .exit)) (hexText (now (bytes .entry))) ⌝ }
+    ensures { λ r. ⌜ Written r (now (out .exit)) (each twoDigits (now (bytes .entry))) ⌝ }
 {
     let mut i = 0;
     while i < bytes.len() {
