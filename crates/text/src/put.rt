@@ -1,4 +1,5 @@
 // Text put together in a buffer, piece by piece.
+use bytes::copy;
 ghost use mathlib.Core.Path.{_≡_};
 ghost use mathlib.Core.List.{_++_};
 ghost use Prim.Native.Nat.{_+_, _≤_};
@@ -10,12 +11,7 @@ pub fn put(bytes: &[u8], out: &mut [u8], at: usize) -> usize
     requires { ⌜ at + length (now bytes) ≤ length (now out) ⌝ }
     ensures { λ r. ⌜ (r ≡ at + length (now (bytes .entry))) × (take r (now (out .exit)) ≡ take at (now (out .entry)) ++ now (bytes .entry)) ⌝ }
 {
-    let mut i = 0;
-    while i < bytes.len() {
-        out[at + i] = bytes[i];
-        i += 1;
-    }
-    at + i
+    at + copy(bytes, &mut out[at..])
 }
 
 // Puts a number in decimal.
@@ -35,8 +31,8 @@ pub fn keep_last(buf: &mut [u8], from: usize)
 {
     let end = from + 12;
     let mut last = twelve();
-    put(&buf[from..end], &mut last, 0);
-    put(&last, buf, 0);
+    copy(&buf[from..end], &mut last);
+    copy(&last, buf);
 }
 
 // Room for 12 bytes.

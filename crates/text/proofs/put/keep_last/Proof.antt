@@ -11,26 +11,26 @@ add-end c = search needs
 twelve-requires : tie.Need-twelve-requires
 twelve-requires c κs = search needs
 
-sub-put : tie.Need-sub-put
-sub-put c = search needs
+sub-copy : tie.Need-sub-copy
+sub-copy c = search needs
 
-part-put-start : tie.Need-part-put-start
-part-put-start c = search needs
+part-copy-start : tie.Need-part-copy-start
+part-copy-start c = search needs
 
-part-put-end : tie.Need-part-put-end
-part-put-end c = search needs
+part-copy-end : tie.Need-part-copy-end
+part-copy-end c = search needs
 
-slice-aggregate-put : tie.Need-slice-aggregate-put
-slice-aggregate-put c = search needs
+slice-aggregate-copy : tie.Need-slice-aggregate-copy
+slice-aggregate-copy c = search needs
 
-put-requires : tie.Need-put-requires
-put-requires c κs = search needs
+copy-requires : tie.Need-copy-requires
+copy-requires c κs = search needs
 
-slice-aggregate-put-2 : tie.Need-slice-aggregate-put-2
-slice-aggregate-put-2 c = search needs
+slice-aggregate-copy-2 : tie.Need-slice-aggregate-copy-2
+slice-aggregate-copy-2 c = search needs
 
-put-requires-2 : tie.Need-put-requires-2
-put-requires-2 c κs = search needs
+copy-requires-2 : tie.Need-copy-requires-2
+copy-requires-2 c κs = search needs
 
 same-length : tie.Need-same-length
 same-length c = search needs
@@ -41,8 +41,8 @@ returns c =
     let first = second .before .before .before .before in
     let room = first .before .before .before .before in
     let start = room .before .before in
-    brought (start .args .buf .now) (second .put2 .last .1 .0) (first .put .last .1 .0) _ (start .args .from) _ _ refl (start .pre)
-    (room .twelve .ensures ∙ sym (first .put .kept .1 .0)) (first .put .ensures .0) (first .put .ensures .1) (second .put2 .ensures .0) (second .put2 .ensures .1)
+    brought (start .args .buf .now) _ (first .copy .last .1 .0) (second .copy2 .last .1 .0) _ _ (start .args .from) (start .pre) refl
+    (first .copy .kept .1 .0 ∙ sym (room .twelve .ensures)) (first .copy .ensures .1) (second .copy2 .ensures .1)
 
 pub keep-last-spec : {M : Type 1} → statement M
 keep-last-spec =
@@ -50,12 +50,12 @@ keep-last-spec =
     (tie.spec
     add-end
     twelve-requires
-    sub-put
-    part-put-start
-    part-put-end
-    slice-aggregate-put
-    put-requires
-    slice-aggregate-put-2
-    put-requires-2
+    sub-copy
+    part-copy-start
+    part-copy-end
+    slice-aggregate-copy
+    copy-requires
+    slice-aggregate-copy-2
+    copy-requires-2
     same-length
     returns)
