@@ -2,9 +2,9 @@
 use answers::calls::check_answer;
 use image::Checked;
 use ports::files::read_file;
-use ports::write::blank_line;
 use ports::write::write_out;
 use ports::write::write_plain;
+use text::line::blank_line;
 use text::put::put;
 use words::hex::bytes_of;
 use words::hex::unpack;

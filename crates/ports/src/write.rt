@@ -12,13 +12,6 @@ const MOST_BYTES: usize = 2048;
 
 const MOST_NUMBERS: usize = 128;
 
-// Room for a line.
-pub fn blank_line() -> [u8; 96]
-    ensures { λ r. ⌜ 96 ≡ length r ⌝ }
-{
-    [0u8; 96]
-}
-
 // Writes bytes as they stand.
 pub fn write_plain(bytes: &[u8]) {
     io::write_all(STDOUT_FILENO, bytes);

@@ -46,6 +46,10 @@ twoDigits b = glyph (b / 16) ∷ glyph (b % 16) ∷ []
 abbrev pub spaced : ℕ → List ℕ
 spaced n = text " " ++ decimal n
 
+-- room for any line
+abbrev pub lineRoom : ℕ
+lineRoom = 96
+
 -- the first r bytes of a buffer are the text
 pub record Written (r : ℕ) (out : List ℕ) (t : List ℕ) : Type 0 where
   pub room : r ≤ length out
