@@ -3,8 +3,7 @@ use image::limits::Entry;
 use libc::STDOUT_FILENO;
 use text::hex::hex_text;
 use text::numbers::numbers_text;
-ghost use mathlib.Core.Path.{_≡_};
-ghost use Prim.Native.Nat.{_-_, _≤_, _<_};
+ghost use Prim.Native.Nat.{_*_, _-_, _≤_, _<_};
 ghost use lib.ListN.{length};
 
 // Bytes and numbers that are made into one piece.
@@ -44,14 +43,21 @@ pub fn write_hex(word: &[u8], bytes: &[u8]) {
 
 // Writes the digits of bytes.
 fn write_digits(bytes: &[u8]) {
-    let mut out = io::buffer();
     let mut at = 0;
     while at < bytes.len() {
         let end = piece_end(at, MOST_BYTES, bytes.len());
-        let n = hex_text(&bytes[at..end], &mut out);
-        write_out(&out, n);
+        write_few_digits(&bytes[at..end]);
         at = end;
     }
+}
+
+// Writes the digits of bytes that make one piece.
+fn write_few_digits(bytes: &[u8])
+    requires { ⌜ 2 * length (now bytes) ≤ 4096 ⌝ }
+{
+    let mut out = io::buffer();
+    let n = hex_text(bytes, &mut out);
+    write_out(&out, n);
 }
 
 // Writes the word entries, and the numbers of a book, each behind a space.
@@ -63,12 +69,19 @@ pub fn write_entries(book: &[Entry]) {
 
 // Writes numbers, each behind a space.
 fn write_numbers(numbers: &[Entry]) {
-    let mut out = io::buffer();
     let mut at = 0;
     while at < numbers.len() {
         let end = piece_end(at, MOST_NUMBERS, numbers.len());
-        let n = numbers_text(&numbers[at..end], &mut out);
-        write_out(&out, n);
+        write_few_numbers(&numbers[at..end]);
         at = end;
     }
+}
+
+// Writes numbers that make one piece.
+fn write_few_numbers(numbers: &[Entry])
+    requires { ⌜ 21 * length (now numbers) ≤ 4096 ⌝ }
+{
+    let mut out = io::buffer();
+    let n = numbers_text(numbers, &mut out);
+    write_out(&out, n);
 }
