@@ -29,12 +29,6 @@ there c =
 loop-holds : tie.Need-loop-holds Inv-loop μ-loop
 loop-holds c = (search needs, search needs, search needs, refl, refl)
 
-shared-slice-read-if1 : tie.Need-shared-slice-read-if1 Inv-loop μ-loop
-shared-slice-read-if1 c = search needs
-
-mul-put-number : tie.Need-mul-put-number Inv-loop μ-loop
-mul-put-number c = search needs
-
 shared-slice-read-put-number : tie.Need-shared-slice-read-put-number Inv-loop μ-loop
 shared-slice-read-put-number c = there (c .before)
 
@@ -43,15 +37,6 @@ put-number-requires c κs =
     let then = c .before .before in
     let at-loop = then .before .before .before in
     omega (arith, there then, at-loop .loop .inv, at-loop .before .before .before .before .pre)
-
-add-k : tie.Need-add-k Inv-loop μ-loop
-add-k c = search needs
-
-add-i : tie.Need-add-i Inv-loop μ-loop
-add-i c = search needs
-
-loop-less : tie.Need-loop-less Inv-loop μ-loop
-loop-less c = search needs
 
 loop-again : tie.Need-loop-again Inv-loop μ-loop
 loop-again c =
@@ -67,21 +52,6 @@ loop-again c =
       next _ (take (at-loop .loop .at) (at-loop .loop .out)) _ (at-loop .loop .inv .4) _ _ _ (at-gap (start .args .form .now) (start .args .numbers .now) (at-loop .loop .i) (at-loop .loop .k) (then .before .before .loop-test .taken) (then .if1 .taken)) (put .put-number .ensures .2),
     )
 
-shared-slice-read-out : tie.Need-shared-slice-read-out Inv-loop μ-loop
-shared-slice-read-out c = search needs
-
-slice-write-out : tie.Need-slice-write-out Inv-loop μ-loop
-slice-write-out c = search needs
-
-add-at : tie.Need-add-at Inv-loop μ-loop
-add-at c = search needs
-
-add-i-2 : tie.Need-add-i-2 Inv-loop μ-loop
-add-i-2 c = search needs
-
-loop-less-2 : tie.Need-loop-less-2 Inv-loop μ-loop
-loop-less-2 c = search needs
-
 loop-again-2 : tie.Need-loop-again-2 Inv-loop μ-loop
 loop-again-2 c =
     let at-loop = c .before .before .before .before in
@@ -93,9 +63,6 @@ loop-again-2 c =
       length-set (at-loop .loop .out) _ _ ∙ at-loop .loop .inv .3,
       next _ (take (at-loop .loop .at) (at-loop .loop .out)) _ (at-loop .loop .inv .4) _ _ _ (at-byte (start .args .form .now) (start .args .numbers .now) (at-loop .loop .i) (at-loop .loop .k) (c .before .before .before .loop-test .taken) (at-loop .loop .inv .1) (c .before .if1 .left)) (one-more (at-loop .loop .out) (at-loop .loop .at) _ room),
     )
-
-same-length : tie.Need-same-length Inv-loop μ-loop
-same-length c = search needs
 
 returns : tie.Need-returns Inv-loop μ-loop
 returns c =
@@ -113,19 +80,12 @@ spell-spec =
     Inv-loop
     μ-loop
     loop-holds
-    shared-slice-read-if1
-    mul-put-number
+    (search needs) (search needs)
     shared-slice-read-put-number
     put-number-requires
-    add-k
-    add-i
-    loop-less
+    (search needs) (search needs) (search needs)
     loop-again
-    shared-slice-read-out
-    slice-write-out
-    add-at
-    add-i-2
-    loop-less-2
+    (search needs) (search needs) (search needs) (search needs) (search needs)
     loop-again-2
-    same-length
+    (search needs)
     returns)

@@ -20,40 +20,13 @@ abbrev μ-loop : tie.MeasureT-loop
 loop-holds : tie.Need-loop-holds Inv-loop μ-loop
 loop-holds c = (search needs, refl, refl)
 
-shared-slice-read-digit : tie.Need-shared-slice-read-digit Inv-loop μ-loop
-shared-slice-read-digit c = search needs
-
 digit-requires : tie.Need-digit-requires Inv-loop μ-loop
 digit-requires c κs = omega (arith, c .shared-slice-known2 .given (c .before .before .loop .i))
-
-mul-out : tie.Need-mul-out Inv-loop μ-loop
-mul-out c = search needs
-
-slice-write-out : tie.Need-slice-write-out Inv-loop μ-loop
-slice-write-out c = search needs
-
-shared-slice-read-digit-2 : tie.Need-shared-slice-read-digit-2 Inv-loop μ-loop
-shared-slice-read-digit-2 c = search needs
-
-digit-requires-2 : tie.Need-digit-requires-2 Inv-loop μ-loop
-digit-requires-2 c κs = search needs
-
-mul-out-2 : tie.Need-mul-out-2 Inv-loop μ-loop
-mul-out-2 c = search needs
-
-add-out : tie.Need-add-out Inv-loop μ-loop
-add-out c = search needs
 
 slice-write-out-2 : tie.Need-slice-write-out-2 Inv-loop μ-loop
 slice-write-out-2 c =
     let at-loop = c .before .before .before .before .before in
     rw length-set (omega (arith, at-loop .before .before .before .pre, at-loop .loop .inv .1, c .before .before .before .before .loop-test .taken))
-
-add-i : tie.Need-add-i Inv-loop μ-loop
-add-i c = search needs
-
-loop-less : tie.Need-loop-less Inv-loop μ-loop
-loop-less c = search needs
 
 loop-again : tie.Need-loop-again Inv-loop μ-loop
 loop-again c =
@@ -68,12 +41,6 @@ loop-again c =
       length-set (set (at-loop .loop .out) _ _) _ _ ∙ length-set (at-loop .loop .out) _ _ ∙ at-loop .loop .inv .1,
       rw (first .digit .ensures, c .digit2 .ensures) (next _ (take (2 * i) (at-loop .loop .out)) _ (at-loop .loop .inv .2) _ _ _ (each-at twoDigits bytes i inside) (two-more (at-loop .loop .out) i _ _ room)),
     )
-
-mul-result : tie.Need-mul-result Inv-loop μ-loop
-mul-result c = search needs
-
-same-length : tie.Need-same-length Inv-loop μ-loop
-same-length c = search needs
 
 returns : tie.Need-returns Inv-loop μ-loop
 returns c =
@@ -91,18 +58,11 @@ hex-text-spec =
     Inv-loop
     μ-loop
     loop-holds
-    shared-slice-read-digit
+    (search needs)
     digit-requires
-    mul-out
-    slice-write-out
-    shared-slice-read-digit-2
-    digit-requires-2
-    mul-out-2
-    add-out
+    (search needs) (search needs) (search needs) (search needs) (search needs) (search needs)
     slice-write-out-2
-    add-i
-    loop-less
+    (search needs) (search needs)
     loop-again
-    mul-result
-    same-length
+    (search needs) (search needs)
     returns)

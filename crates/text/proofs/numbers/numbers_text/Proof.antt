@@ -20,31 +20,13 @@ abbrev μ-loop : tie.MeasureT-loop
 loop-holds : tie.Need-loop-holds Inv-loop μ-loop
 loop-holds c = (search needs, search needs, refl, refl)
 
-slice-write-out : tie.Need-slice-write-out Inv-loop μ-loop
-slice-write-out c = search needs
-
-mul-put-number : tie.Need-mul-put-number Inv-loop μ-loop
-mul-put-number c = search needs
-
-shared-slice-read-put-number : tie.Need-shared-slice-read-put-number Inv-loop μ-loop
-shared-slice-read-put-number c = search needs
-
 cast-put-number : tie.Need-cast-put-number Inv-loop μ-loop
 cast-put-number c = omega (arith, c .shared-slice-known2 .given (c .before .before .loop .i))
-
-add-put-number : tie.Need-add-put-number Inv-loop μ-loop
-add-put-number c = search needs
 
 put-number-requires : tie.Need-put-number-requires Inv-loop μ-loop
 put-number-requires c κs =
     let at-loop = c .before .before .before in
     rw length-set (omega (arith, at-loop .before .before .before .pre, at-loop .loop .inv, c .before .before .loop-test .taken))
-
-add-i : tie.Need-add-i Inv-loop μ-loop
-add-i c = search needs
-
-loop-less : tie.Need-loop-less Inv-loop μ-loop
-loop-less c = search needs
 
 loop-again : tie.Need-loop-again Inv-loop μ-loop
 loop-again c =
@@ -60,9 +42,6 @@ loop-again c =
       next _ (take (at-loop .loop .at) (at-loop .loop .out)) _ (at-loop .loop .inv .3) _ _ _ (each-at spaced numbers (at-loop .loop .i) (inside .loop-test .taken))
           (rw (one-more (at-loop .loop .out) (at-loop .loop .at) _ room) at (made .put-number .ensures .2) ∙ append-assoc (take (at-loop .loop .at) (at-loop .loop .out)) _ _),
     )
-
-same-length : tie.Need-same-length Inv-loop μ-loop
-same-length c = search needs
 
 returns : tie.Need-returns Inv-loop μ-loop
 returns c =
@@ -80,14 +59,11 @@ numbers-text-spec =
     Inv-loop
     μ-loop
     loop-holds
-    slice-write-out
-    mul-put-number
-    shared-slice-read-put-number
+    (search needs) (search needs) (search needs)
     cast-put-number
-    add-put-number
+    (search needs)
     put-number-requires
-    add-i
-    loop-less
+    (search needs) (search needs)
     loop-again
-    same-length
+    (search needs)
     returns)

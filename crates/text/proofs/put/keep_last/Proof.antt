@@ -5,36 +5,6 @@ use borrow.Author.Needs.{needs}
 use Rattle.text.proofs.put.keep_last.Statement.{statement}
 use Rattle.text.proofs.put.keep_last.Tie as tie
 
-add-end : tie.Need-add-end
-add-end c = search needs
-
-twelve-requires : tie.Need-twelve-requires
-twelve-requires c κs = search needs
-
-sub-copy : tie.Need-sub-copy
-sub-copy c = search needs
-
-part-copy-start : tie.Need-part-copy-start
-part-copy-start c = search needs
-
-part-copy-end : tie.Need-part-copy-end
-part-copy-end c = search needs
-
-slice-aggregate-copy : tie.Need-slice-aggregate-copy
-slice-aggregate-copy c = search needs
-
-copy-requires : tie.Need-copy-requires
-copy-requires c κs = search needs
-
-slice-aggregate-copy-2 : tie.Need-slice-aggregate-copy-2
-slice-aggregate-copy-2 c = search needs
-
-copy-requires-2 : tie.Need-copy-requires-2
-copy-requires-2 c κs = search needs
-
-same-length : tie.Need-same-length
-same-length c = search needs
-
 returns : tie.Need-returns
 returns c =
     let second = c .before .before in
@@ -48,14 +18,6 @@ pub keep-last-spec : {M : Type 1} → statement M
 keep-last-spec =
     tie.close
     (tie.spec
-    add-end
-    twelve-requires
-    sub-copy
-    part-copy-start
-    part-copy-end
-    slice-aggregate-copy
-    copy-requires
-    slice-aggregate-copy-2
-    copy-requires-2
-    same-length
+    (search needs) (search needs) (search needs) (search needs) (search needs) (search needs) (search needs) (search needs)
+    (search needs) (search needs)
     returns)

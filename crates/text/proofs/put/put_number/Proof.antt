@@ -14,23 +14,11 @@ use Rattle.text.proofs.put.put_number.Tie as tie
 short : (c : tie.After-decimal) → c .decimal .result ≤ 20
 short c = let start = c .before .before .before in fewest-short (start .args .n) (c .decimal .result) (start .fits .n .fits) (c .decimal .ensures .1 .0)
 
-decimal-requires : tie.Need-decimal-requires
-decimal-requires c κs = search needs
-
-array-share-prefix-digits : tie.Need-array-share-prefix-digits
-array-share-prefix-digits c = search needs
-
-slice-aggregate-put : tie.Need-slice-aggregate-put
-slice-aggregate-put c = search needs
-
 put-requires : tie.Need-put-requires
 put-requires c κs =
     let made = c .before .before in
     let start = made .before .before .before in
     omega (arith, made .decimal .ensures .0 .1, short made, start .pre)
-
-same-length : tie.Need-same-length
-same-length c = search needs
 
 returns : tie.Need-returns
 unfolding decimal
@@ -50,9 +38,7 @@ pub put-number-spec : {M : Type 1} → statement M
 put-number-spec =
     tie.close
     (tie.spec
-    decimal-requires
-    array-share-prefix-digits
-    slice-aggregate-put
+    (search needs) (search needs) (search needs)
     put-requires
-    same-length
+    (search needs)
     returns)
