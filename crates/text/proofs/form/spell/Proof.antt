@@ -1,9 +1,9 @@
 -- `text::form::spell` meets its contract: what is made, and what the rest of the form spells, is the whole line.
-use mathlib.Core.Path.{_≡_, refl, _∙_}
+use mathlib.Core.Path.{_≡_}
 use mathlib.Core.List.{_++_}
 use Prim.Native.Nat.{_+_, _*_, _-_, _≤_, _<_}
 use native.Mathlib.Omega.{arith}
-use lib.ListN.{length, take, drop, length-set}
+use lib.ListN.{length, take, drop}
 use Rattle.text.specs.Text.{spelled}
 use Rattle.text.proofs.Laws.Made.{next, finished, one-more}
 use Rattle.text.proofs.Laws.Form.{number-there, at-gap, at-byte, at-end}
@@ -26,9 +26,6 @@ there c =
     let start = at-loop .before .before .before .before in
     number-there (start .args .form .now) (start .args .numbers .now) (at-loop .loop .i) (at-loop .loop .k) (c .if1 .taken)
 
-loop-holds : tie.Need-loop-holds Inv-loop μ-loop
-loop-holds c = (search needs, search needs, search needs, refl, refl)
-
 shared-slice-read-put-number : tie.Need-shared-slice-read-put-number Inv-loop μ-loop
 shared-slice-read-put-number c = there (c .before)
 
@@ -44,34 +41,24 @@ loop-again c =
     let then = put .before .before .before in
     let at-loop = then .before .before .before in
     let start = at-loop .before .before .before .before in
-    let known = there then in (
-      search needs,
-      search needs,
-      omega (arith, put .put-number .ensures .1, at-loop .loop .inv .2),
-      put .put-number .kept .1 .0 ∙ at-loop .loop .inv .3,
-      next _ (take (at-loop .loop .at) (at-loop .loop .out)) _ (at-loop .loop .inv .4) _ _ _ (at-gap (start .args .form .now) (start .args .numbers .now) (at-loop .loop .i) (at-loop .loop .k) (then .before .before .loop-test .taken) (then .if1 .taken)) (put .put-number .ensures .2),
-    )
+    let known = there then in
+    let more = next _ (take (at-loop .loop .at) (at-loop .loop .out)) _ (at-loop .loop .inv .4) _ _ _ (at-gap (start .args .form .now) (start .args .numbers .now) (at-loop .loop .i) (at-loop .loop .k) (then .before .before .loop-test .taken) (then .if1 .taken)) (put .put-number .ensures .2) in
+    search needs
 
 loop-again-2 : tie.Need-loop-again-2 Inv-loop μ-loop
 loop-again-2 c =
     let at-loop = c .before .before .before .before in
     let start = at-loop .before .before .before .before in
-    let room : at-loop .loop .at < length (at-loop .loop .out) = omega (arith, at-loop .loop .inv, start .pre, c .before .before .before .loop-test .taken) in (
-      search needs,
-      search needs,
-      search needs,
-      length-set (at-loop .loop .out) _ _ ∙ at-loop .loop .inv .3,
-      next _ (take (at-loop .loop .at) (at-loop .loop .out)) _ (at-loop .loop .inv .4) _ _ _ (at-byte (start .args .form .now) (start .args .numbers .now) (at-loop .loop .i) (at-loop .loop .k) (c .before .before .before .loop-test .taken) (at-loop .loop .inv .1) (c .before .if1 .left)) (one-more (at-loop .loop .out) (at-loop .loop .at) _ room),
-    )
+    let room : at-loop .loop .at < length (at-loop .loop .out) = omega (arith, at-loop .loop .inv, start .pre, c .before .before .before .loop-test .taken) in
+    let more = next _ (take (at-loop .loop .at) (at-loop .loop .out)) _ (at-loop .loop .inv .4) _ _ _ (at-byte (start .args .form .now) (start .args .numbers .now) (at-loop .loop .i) (at-loop .loop .k) (c .before .before .before .loop-test .taken) (at-loop .loop .inv .1) (c .before .if1 .left)) (one-more (at-loop .loop .out) (at-loop .loop .at) _ room) in
+    search needs
 
 returns : tie.Need-returns Inv-loop μ-loop
 returns c =
     let at-loop = c .before in
     let start = at-loop .before .before .before .before in
-    record {
-      room = omega (arith, at-loop .loop .inv, start .pre);
-      is = finished _ _ _ (at-loop .loop .inv .4) (at-end (start .args .form .now) (start .args .numbers .now) (at-loop .loop .i) (at-loop .loop .k) (omega (arith, c .loop-test .left)));
-    }
+    let whole = finished _ (take (at-loop .loop .at) (at-loop .loop .out)) _ (at-loop .loop .inv .4) (at-end (start .args .form .now) (start .args .numbers .now) (at-loop .loop .i) (at-loop .loop .k) (omega (arith, c .loop-test .left))) in
+    search needs
 
 pub spell-spec : {M : Type 1} → statement M
 spell-spec =
@@ -79,8 +66,7 @@ spell-spec =
     (tie.spec
     Inv-loop
     μ-loop
-    loop-holds
-    (search needs) (search needs)
+    (search needs) (search needs) (search needs)
     shared-slice-read-put-number
     put-number-requires
     (search needs) (search needs) (search needs)

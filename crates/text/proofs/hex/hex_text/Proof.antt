@@ -1,9 +1,9 @@
 -- `text::hex::hex_text` meets its contract: what is made, and the text of the bytes left, is the whole text.
-use mathlib.Core.Path.{_≡_, refl, _∙_}
+use mathlib.Core.Path.{_≡_}
 use mathlib.Core.List.{_++_}
 use Prim.Native.Nat.{_+_, _*_, _-_, _≤_, _<_}
 use native.Mathlib.Omega.{arith}
-use lib.ListN.{length, take, drop, set, length-set}
+use lib.ListN.{length, take, drop, length-set}
 use Rattle.text.specs.Text.{each, twoDigits}
 use Rattle.text.proofs.Laws.Made.{next, finished, two-more}
 use Rattle.text.proofs.Laws.Each.{each-at, each-past}
@@ -16,9 +16,6 @@ Inv-loop bytes out₀ i₀ out i = (i ≤ length bytes) × (length out ≡ lengt
 
 abbrev μ-loop : tie.MeasureT-loop
 μ-loop bytes out₀ i₀ out i = length bytes - i
-
-loop-holds : tie.Need-loop-holds Inv-loop μ-loop
-loop-holds c = (search needs, refl, refl)
 
 digit-requires : tie.Need-digit-requires Inv-loop μ-loop
 digit-requires c κs = omega (arith, c .shared-slice-known2 .given (c .before .before .loop .i))
@@ -36,20 +33,16 @@ loop-again c =
     let bytes = start .args .bytes .now in
     let i = at-loop .loop .i in
     let inside : i < length bytes = first .before .before .loop-test .taken in
-    let room : 2 * i + 1 < length (at-loop .loop .out) = omega (arith, start .pre, at-loop .loop .inv .1) in (
-      search needs,
-      length-set (set (at-loop .loop .out) _ _) _ _ ∙ length-set (at-loop .loop .out) _ _ ∙ at-loop .loop .inv .1,
-      rw (first .digit .ensures, c .digit2 .ensures) (next _ (take (2 * i) (at-loop .loop .out)) _ (at-loop .loop .inv .2) _ _ _ (each-at twoDigits bytes i inside) (two-more (at-loop .loop .out) i _ _ room)),
-    )
+    let room : 2 * i + 1 < length (at-loop .loop .out) = omega (arith, start .pre, at-loop .loop .inv .1) in
+    let more = rw (← first .digit .ensures, ← c .digit2 .ensures) at (next _ (take (2 * i) (at-loop .loop .out)) _ (at-loop .loop .inv .2) _ _ _ (each-at twoDigits bytes i inside) (two-more (at-loop .loop .out) i _ _ room)) in
+    search needs
 
 returns : tie.Need-returns Inv-loop μ-loop
 returns c =
     let at-loop = c .before in
     let start = at-loop .before .before .before in
-    record {
-      room = omega (arith, at-loop .loop .inv, start .pre);
-      is = finished _ _ _ (at-loop .loop .inv .2) (each-past twoDigits (start .args .bytes .now) (at-loop .loop .i) (omega (arith, c .loop-test .left)));
-    }
+    let whole = finished _ (take (2 * at-loop .loop .i) (at-loop .loop .out)) _ (at-loop .loop .inv .2) (each-past twoDigits (start .args .bytes .now) (at-loop .loop .i) (omega (arith, c .loop-test .left))) in
+    search needs
 
 pub hex-text-spec : {M : Type 1} → statement M
 hex-text-spec =
@@ -57,8 +50,7 @@ hex-text-spec =
     (tie.spec
     Inv-loop
     μ-loop
-    loop-holds
-    (search needs)
+    (search needs) (search needs)
     digit-requires
     (search needs) (search needs) (search needs) (search needs) (search needs) (search needs)
     slice-write-out-2

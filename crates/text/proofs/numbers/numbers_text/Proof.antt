@@ -1,5 +1,5 @@
 -- `text::numbers::numbers_text` meets its contract: what is made, and the text of the numbers left, is the whole text.
-use mathlib.Core.Path.{_≡_, refl, _∙_}
+use mathlib.Core.Path.{_≡_, _∙_}
 use mathlib.Core.List.{_++_, append-assoc}
 use Prim.Native.Nat.{_+_, _*_, _-_, _≤_, _<_}
 use native.Mathlib.Omega.{arith}
@@ -17,9 +17,6 @@ Inv-loop numbers out₀ at₀ i₀ out at i = (i ≤ length numbers) × (at ≤ 
 abbrev μ-loop : tie.MeasureT-loop
 μ-loop numbers out₀ at₀ i₀ out at i = length numbers - i
 
-loop-holds : tie.Need-loop-holds Inv-loop μ-loop
-loop-holds c = (search needs, search needs, refl, refl)
-
 cast-put-number : tie.Need-cast-put-number Inv-loop μ-loop
 cast-put-number c = omega (arith, c .shared-slice-known2 .given (c .before .before .loop .i))
 
@@ -35,22 +32,18 @@ loop-again c =
     let at-loop = inside .before in
     let start = at-loop .before .before .before in
     let numbers = start .args .numbers .now in
-    let room : at-loop .loop .at < length (at-loop .loop .out) = omega (arith, start .pre, at-loop .loop .inv, inside .loop-test .taken) in (
-      search needs,
-      omega (arith, made .put-number .ensures .1, at-loop .loop .inv .1),
-      made .put-number .kept .1 .0 ∙ length-set (at-loop .loop .out) _ _ ∙ at-loop .loop .inv .2,
-      next _ (take (at-loop .loop .at) (at-loop .loop .out)) _ (at-loop .loop .inv .3) _ _ _ (each-at spaced numbers (at-loop .loop .i) (inside .loop-test .taken))
-          (rw (one-more (at-loop .loop .out) (at-loop .loop .at) _ room) at (made .put-number .ensures .2) ∙ append-assoc (take (at-loop .loop .at) (at-loop .loop .out)) _ _),
-    )
+    let room : at-loop .loop .at < length (at-loop .loop .out) = omega (arith, start .pre, at-loop .loop .inv, inside .loop-test .taken) in
+    let size = made .put-number .kept .1 .0 ∙ length-set (at-loop .loop .out) _ _ in
+    let more = next _ (take (at-loop .loop .at) (at-loop .loop .out)) _ (at-loop .loop .inv .3) _ _ _ (each-at spaced numbers (at-loop .loop .i) (inside .loop-test .taken))
+    (rw (one-more (at-loop .loop .out) (at-loop .loop .at) _ room) at (made .put-number .ensures .2) ∙ append-assoc (take (at-loop .loop .at) (at-loop .loop .out)) _ _) in
+    search needs
 
 returns : tie.Need-returns Inv-loop μ-loop
 returns c =
     let at-loop = c .before in
     let start = at-loop .before .before .before in
-    record {
-      room = omega (arith, at-loop .loop .inv, start .pre);
-      is = finished _ _ _ (at-loop .loop .inv .3) (each-past spaced (start .args .numbers .now) (at-loop .loop .i) (omega (arith, c .loop-test .left)));
-    }
+    let whole = finished _ (take (at-loop .loop .at) (at-loop .loop .out)) _ (at-loop .loop .inv .3) (each-past spaced (start .args .numbers .now) (at-loop .loop .i) (omega (arith, c .loop-test .left))) in
+    search needs
 
 pub numbers-text-spec : {M : Type 1} → statement M
 numbers-text-spec =
@@ -58,8 +51,7 @@ numbers-text-spec =
     (tie.spec
     Inv-loop
     μ-loop
-    loop-holds
-    (search needs) (search needs) (search needs)
+    (search needs) (search needs) (search needs) (search needs)
     cast-put-number
     (search needs)
     put-number-requires
