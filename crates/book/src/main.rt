@@ -10,7 +10,7 @@ use report::lines::total_line;
 use text::line::blank_line;
 use text::put::keep_last;
 use text::put::put;
-ghost use Prim.Native.Nat.{_*_, _≤_};
+ghost use Prim.Native.Nat.{_≤_};
 ghost use mathlib.Core.Path.{_≡_};
 ghost use lib.ListN.{length};
 
