@@ -1,9 +1,9 @@
-// Room for a line.
+// The buffer that a line is made in.
 ghost use mathlib.Core.Path.{_≡_};
 ghost use lib.ListN.{length};
 ghost use Rattle.text.specs.Text.{lineRoom};
 
-// How many bytes there is room for.
+// How many bytes it has.
 const LINE: usize = 96;
 
 // Room for a line.
