@@ -16,7 +16,7 @@ use Rattle.find.specs.Book.{BookOwes}
 use Rattle.find.specs.declared.Found.{Found}
 use Rattle.find.specs.declared.Counted.{Counted}
 use Rattle.alter.specs.Alter.{AlterOwes}
-use Rattle.report.specs.Text.{Written}
+use Rattle.text.specs.Text.{Written}
 use Rattle.answers.specs.Outcomes.{checkedText, filledText, judgedText, foundText, countedText, drivenText}
 
 -- an outcome that is owed, and its line as the first n bytes of a buffer

@@ -15,7 +15,8 @@ use Rattle.find.specs.declared.Counted.the-variants.{Entries, Refused as Uncoun
 use Rattle.five.specs.declared.Driven.{Driven}
 use Rattle.five.specs.declared.Driven.the-variants.{Count, Refused as Undriven}
 use Rattle.board.specs.Lists.{text}
-use Rattle.report.specs.Lines.{form, headerText, totalText, refusedText}
+use Rattle.text.specs.Text.{form}
+use Rattle.report.specs.Lines.{headerText, totalText, refusedText}
 
 -- board 3 lines 1 inputs 1 outputs
 abbrev pub checkedText : Checked → List ℕ

@@ -3,16 +3,16 @@ use find::Counted;
 use find::Found;
 use five::Driven;
 use image::Checked;
-use report::form::spell;
 use report::lines::header_line;
 use report::lines::plain_line;
 use report::lines::refusal_line;
 use report::lines::total_line;
 use rows::Filled;
 use rows::Judged;
+use text::form::spell;
 ghost use Prim.Native.Nat.{_≤_};
 ghost use lib.ListN.{length};
-ghost use Rattle.report.specs.Text.{Written};
+ghost use Rattle.text.specs.Text.{Written};
 ghost use Rattle.answers.specs.Outcomes.{checkedText, filledText, judgedText, foundText, countedText, drivenText};
 
 // Check's: board 3 lines 1 inputs 1 outputs.

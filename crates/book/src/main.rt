@@ -7,18 +7,12 @@ use report::entries::entry_line;
 use report::lines::header_line;
 use report::lines::refusal_line;
 use report::lines::total_line;
-use report::put::keep_last;
-use report::put::put;
-ghost use Prim.Native.Nat.{_*_, _≤_};
+use text::line::blank_line;
+use text::put::keep_last;
+use text::put::put;
+ghost use Prim.Native.Nat.{_≤_};
 ghost use mathlib.Core.Path.{_≡_};
 ghost use lib.ListN.{length};
-
-// Room for a line.
-fn blank_line() -> [u8; 96]
-    ensures { λ r. ⌜ 96 ≡ length r ⌝ }
-{
-    [0u8; 96]
-}
 
 // Room for an image, and for one byte more than the longest good one has.
 fn blank_image() -> [u8; 5517]

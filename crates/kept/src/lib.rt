@@ -2,10 +2,10 @@
 use answers::calls::check_answer;
 use image::Checked;
 use ports::files::read_file;
-use ports::write::blank_line;
 use ports::write::write_out;
 use ports::write::write_plain;
-use report::put::put;
+use text::line::blank_line;
+use text::put::put;
 use words::hex::bytes_of;
 use words::hex::unpack;
 ghost use mathlib.Core.Path.{_≡_};

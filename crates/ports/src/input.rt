@@ -1,7 +1,8 @@
 // Lines from standard input. What comes is answered at once: one read at a time, and no more than what is there.
+use bytes::scan::find;
 use libc::STDIN_FILENO;
 ghost use mathlib.Core.Path.{_≡_};
-ghost use Prim.Native.Nat.{_+_, _-_, _≤_, _<_};
+ghost use Prim.Native.Nat.{_≤_, _<_};
 ghost use lib.ListN.{length};
 ghost use Rattle.ports.specs.Input.{Inside, Stepped, roomy};
 
@@ -23,20 +24,6 @@ pub enum Step {
     Long(Place),
     More(Place),
     Last { from: usize, to: usize },
-}
-
-// Where the first line feed is, or the length where there is none.
-fn feed_in(bytes: &[u8]) -> usize
-    ensures { λ r. ⌜ r ≤ length (now (bytes .entry)) ⌝ }
-{
-    let mut i = 0;
-    while i < bytes.len() {
-        if bytes[i] == b'\n' {
-            return i;
-        }
-        i += 1;
-    }
-    i
 }
 
 // What the line is that ends with the line feed at k.
@@ -121,7 +108,7 @@ pub fn next_step(buf: &mut [u8], at: Place) -> Step
 {
     let seen = at.seen;
     let end = at.end;
-    let k = seen + feed_in(&buf[seen..end]);
+    let k = find(buf, seen, end, b'\n');
     if k < end {
         return ended(at, k);
     }

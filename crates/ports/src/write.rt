@@ -1,22 +1,15 @@
 // Answers on standard output. A long one is written in pieces.
-use crate::hex::hex_text;
-use crate::numbers::numbers_text;
+use image::limits::Entry;
 use libc::STDOUT_FILENO;
-ghost use mathlib.Core.Path.{_≡_};
-ghost use Prim.Native.Nat.{_-_, _≤_, _<_};
+use text::hex::hex_text;
+use text::numbers::numbers_text;
+ghost use Prim.Native.Nat.{_*_, _-_, _≤_, _<_};
 ghost use lib.ListN.{length};
 
 // Bytes and numbers that are made into one piece.
 const MOST_BYTES: usize = 2048;
 
 const MOST_NUMBERS: usize = 128;
-
-// Room for a line.
-pub fn blank_line() -> [u8; 96]
-    ensures { λ r. ⌜ 96 ≡ length r ⌝ }
-{
-    [0u8; 96]
-}
 
 // Writes bytes as they stand.
 pub fn write_plain(bytes: &[u8]) {
@@ -50,31 +43,45 @@ pub fn write_hex(word: &[u8], bytes: &[u8]) {
 
 // Writes the digits of bytes.
 fn write_digits(bytes: &[u8]) {
-    let mut out = io::buffer();
     let mut at = 0;
     while at < bytes.len() {
         let end = piece_end(at, MOST_BYTES, bytes.len());
-        let n = hex_text(&bytes[at..end], &mut out);
-        write_out(&out, n);
+        write_few_digits(&bytes[at..end]);
         at = end;
     }
 }
 
+// Writes the digits of bytes that make one piece.
+fn write_few_digits(bytes: &[u8])
+    requires { ⌜ 2 * length (now bytes) ≤ 4096 ⌝ }
+{
+    let mut out = io::buffer();
+    let n = hex_text(bytes, &mut out);
+    write_out(&out, n);
+}
+
 // Writes the word entries, and the numbers of a book, each behind a space.
-pub fn write_entries(book: &[u32]) {
+pub fn write_entries(book: &[Entry]) {
     write_plain(b"entries");
     write_numbers(book);
     write_plain(b"\n");
 }
 
 // Writes numbers, each behind a space.
-fn write_numbers(numbers: &[u32]) {
-    let mut out = io::buffer();
+fn write_numbers(numbers: &[Entry]) {
     let mut at = 0;
     while at < numbers.len() {
         let end = piece_end(at, MOST_NUMBERS, numbers.len());
-        let n = numbers_text(&numbers[at..end], &mut out);
-        write_out(&out, n);
+        write_few_numbers(&numbers[at..end]);
         at = end;
     }
+}
+
+// Writes numbers that make one piece.
+fn write_few_numbers(numbers: &[Entry])
+    requires { ⌜ 21 * length (now numbers) ≤ 4096 ⌝ }
+{
+    let mut out = io::buffer();
+    let n = numbers_text(numbers, &mut out);
+    write_out(&out, n);
 }

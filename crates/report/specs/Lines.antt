@@ -3,19 +3,13 @@ use mathlib.Core.Path.{_≡_}
 use mathlib.Core.List.{List, [], _∷_}
 use mathlib.Core.Option.{Option, none, some}
 use Prim.Native.Nat.{ℕ, _*_, _/_, _%_, _≤_, _<_}
-use Prim.Native.String.{String}
 use lib.ListN.{length, take}
 use Rattle.board.specs.Test.{find}
 use Rattle.board.specs.Book.{lineFault}
 use Rattle.image.specs.Image.{lineCount, boardOf}
 use Rattle.image.specs.Refusals.{Accepted}
 use Rattle.report.specs.declared.entries.Line.{Line as Made}
-use Rattle.board.specs.Lists.{text}
-use Rattle.report.specs.Text.{spelled}
-
--- a form's text, with its numbers
-abbrev pub form : String → List ℕ → List ℕ
-form f ns = spelled (text f) ns
+use Rattle.text.specs.Text.{form}
 
 -- board 3 lines 1 inputs 1 outputs
 abbrev pub headerText : ℕ → ℕ → ℕ → List ℕ

@@ -5,6 +5,7 @@ use find::Found;
 use find::find;
 ghost use Prim.Native.Nat.{_≤_};
 ghost use lib.ListN.{length};
+ghost use Rattle.text.specs.Text.{lineRoom};
 ghost use Rattle.report.specs.Lines.{EntryOwes};
 
 // How long the line is, and 1 where its entry is not none.
@@ -15,7 +16,7 @@ pub struct Line {
 
 // Makes the line of entry k.
 pub fn entry_line(img: &[u8], k: usize, out: &mut [u8]) -> Line
-    requires { ⌜ 96 ≤ length (now out) ⌝ }
+    requires { ⌜ lineRoom ≤ length (now out) ⌝ }
     ensures { λ r. ⌜ EntryOwes (now (img .entry)) k r (now (out .exit)) ⌝ }
 {
     let line = k / 2;

@@ -1,13 +1,13 @@
 // The lines of the book as text.
-use crate::form::spell;
-use crate::put::put;
 use image::Refusal;
+use text::form::spell;
+use text::put::put;
 ghost use mathlib.Core.Path.{_≡_};
 ghost use mathlib.Core.Option.{none, some};
 ghost use Prim.Native.Nat.{_≤_, _<_};
 ghost use lib.ListN.{length, getD};
 ghost use Rattle.image.specs.Check.{number};
-ghost use Rattle.report.specs.Text.{Written};
+ghost use Rattle.text.specs.Text.{Written, lineRoom};
 ghost use Rattle.report.specs.Lines.{headerText, entryText, totalText, refusedText};
 
 // A line as it stands.
@@ -20,7 +20,7 @@ pub fn plain_line(bytes: &[u8], out: &mut [u8]) -> usize
 
 // The first line: board 3 lines 1 inputs 1 outputs.
 pub fn header_line(lines: usize, inputs: usize, outputs: usize, out: &mut [u8]) -> usize
-    requires { ⌜ 96 ≤ length (now out) ⌝ }
+    requires { ⌜ lineRoom ≤ length (now out) ⌝ }
     ensures { λ r. ⌜ Written r (now (out .exit)) (headerText lines inputs outputs) ⌝ }
 {
     let counts = [lines as u64, inputs as u64, outputs as u64];
@@ -29,7 +29,7 @@ pub fn header_line(lines: usize, inputs: usize, outputs: usize, out: &mut [u8]) 
 
 // The line of an entry that is a pattern: 1/0 0.
 pub fn pattern_line(line: usize, stuck: u8, pattern: u64, out: &mut [u8]) -> usize
-    requires { ⌜ 96 ≤ length (now out) ⌝ }
+    requires { ⌜ lineRoom ≤ length (now out) ⌝ }
     ensures { λ r. ⌜ Written r (now (out .exit)) (entryText line stuck (some pattern)) ⌝ }
 {
     spell(b"#/# #\n", &[line as u64, stuck as u64, pattern], out)
@@ -37,7 +37,7 @@ pub fn pattern_line(line: usize, stuck: u8, pattern: u64, out: &mut [u8]) -> usi
 
 // The line of an entry that is none: 1/1 none.
 pub fn none_line(line: usize, stuck: u8, out: &mut [u8]) -> usize
-    requires { ⌜ 96 ≤ length (now out) ⌝ }
+    requires { ⌜ lineRoom ≤ length (now out) ⌝ }
     ensures { λ r. ⌜ Written r (now (out .exit)) (entryText line stuck none) ⌝ }
 {
     spell(b"#/# none\n", &[line as u64, stuck as u64], out)
@@ -45,7 +45,7 @@ pub fn none_line(line: usize, stuck: u8, out: &mut [u8]) -> usize
 
 // The last line: found 2 of 6.
 pub fn total_line(found: usize, all: usize, out: &mut [u8]) -> usize
-    requires { ⌜ 96 ≤ length (now out) ⌝ }
+    requires { ⌜ lineRoom ≤ length (now out) ⌝ }
     ensures { λ r. ⌜ Written r (now (out .exit)) (totalText found all) ⌝ }
 {
     spell(b"found # of #\n", &[found as u64, all as u64], out)
@@ -102,7 +102,7 @@ fn numbers_of(r: Refusal) -> Numbers
 
 // A refusal's one line: refused 1, refused 5 at 0, or refused 4 at 2.3.
 pub fn refusal_line(r: Refusal, out: &mut [u8]) -> usize
-    requires { ⌜ 96 ≤ length (now out) ⌝ }
+    requires { ⌜ lineRoom ≤ length (now out) ⌝ }
     ensures { λ n. ⌜ Written n (now (out .exit)) (refusedText (number r)) ⌝ }
 {
     let n = numbers_of(r);

@@ -4,7 +4,8 @@ use mathlib.Core.List.{List, [], _∷_}
 use Prim.Native.Nat.{ℕ, _<_}
 use native.Mathlib.Omega.{arith}
 use lib.ListN.{length, getD}
-use Rattle.report.specs.Lines.{form, refusedText}
+use Rattle.text.specs.Text.{form}
+use Rattle.report.specs.Lines.{refusedText}
 
 pub with-one : (l : List ℕ) → length l ≡ 1 → refusedText l ≡ form "refused #\n" (getD l 0 0 ∷ [])
 with-one [] e = absurd (omega arith)

@@ -19,30 +19,6 @@ use Rattle.report.proofs.entries.entry_line.Tie as tie
 known : (s : List ℕ) (k : ℕ) → Accepted s → k < 2 * lineCount s → firstRefusal (faultRefusals s (k / 2) (k % 2)) ≡ none
 known s k ok l = fault-none s (k / 2) (k % 2) ok (omega arith) (omega arith)
 
-cast-stuck : tie.Need-cast-stuck
-cast-stuck c = search needs
-
-find-requires : tie.Need-find-requires
-find-requires c κs = search needs
-
-enum-known-p : tie.Need-enum-known-p
-enum-known-p c = search needs
-
-pattern-line-requires : tie.Need-pattern-line-requires
-pattern-line-requires c κs = search needs
-
-enum-told : tie.Need-enum-told
-enum-told c = search needs
-
-none-line-requires : tie.Need-none-line-requires
-none-line-requires c κs = search needs
-
-enum-told-2 : tie.Need-enum-told-2
-enum-told-2 c = search needs
-
-same-length : tie.Need-same-length
-same-length c = search needs
-
 returns : tie.Need-returns
 returns c =
     let made = c .before .before in
@@ -57,9 +33,6 @@ returns c =
       line = λ ok l. rw (is ok l) (made .pattern-line .ensures .is);
       counts = λ ok l. rw (is ok l);
     }
-
-same-length-2 : tie.Need-same-length-2
-same-length-2 c = search needs
 
 returns-2 : tie.Need-returns-2
 returns-2 c =
@@ -92,15 +65,8 @@ pub entry-line-spec : {M : Type 1} → statement M
 entry-line-spec =
     tie.close
     (tie.spec
-    cast-stuck
-    find-requires
-    enum-known-p
-    pattern-line-requires
-    enum-told
-    none-line-requires
-    enum-told-2
-    same-length
+    (search needs) (search needs) (search needs) (search needs) (search needs) (search needs) (search needs) (search needs)
     returns
-    same-length-2
+    (search needs)
     returns-2
     returns-3)

@@ -1,0 +1,4 @@
+pub mod Made
+pub mod Decimal
+pub mod Form
+pub mod Each
