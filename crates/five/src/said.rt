@@ -3,13 +3,12 @@ use crate::Driven;
 use image::said::Numbers;
 use image::said::refused;
 use image::said::with_one;
-ghost use mathlib.Core.Path.{_≡_};
-ghost use Rattle.image.specs.Promise.{packed};
+ghost use Rattle.image.specs.Promise.{Packs};
 ghost use Rattle.five.specs.Five.{drivenSays};
 
 // The numbers of the answer of the five values.
 pub fn driven(d: Driven) -> Numbers
-    ensures { λ r. ⌜ r ≡ packed (drivenSays d) ⌝ }
+    ensures { λ r. ⌜ Packs (drivenSays d) r ⌝ }
 {
     match d {
         Driven::Count(n) => with_one(0, n as u64),

@@ -3,7 +3,7 @@ use mathlib.Core.Path.{_≡_}
 use mathlib.Core.Option.{Option, none, some}
 use mathlib.Core.List.{List, [], _∷_}
 use Prim.Native.Nat.{ℕ, _-_}
-use lib.ListN.{length, getD}
+use lib.ListN.{length, getD, take}
 use Rattle.image.specs.Refusals.{firstRefusal}
 use Rattle.image.specs.declared.Refusal.{Refusal}
 use Rattle.image.specs.declared.Refusal.the-variants.{Mark, Counts, Distance, Record, Output, Line, Stuck, Pattern, Lent, Alteration, Row}
@@ -48,3 +48,12 @@ pub record Owes (p : Promise) (left : List (List ℕ)) (said : List ℕ) : Type 
 -- what is said, side by side: its first number, how many follow it, and these, with 0 in the unused places
 abbrev pub packed : List ℕ → Numbers
 packed ns = record { number = getD ns 0 0; values = length ns - 1; first = getD ns 1 0; second = getD ns 2 0; third = getD ns 3 0 }
+
+-- and one after the other again
+abbrev pub unpacked : Numbers → List ℕ
+unpacked n = n .number ∷ take (n .values) (n .first ∷ n .second ∷ n .third ∷ [])
+
+-- these numbers stand so, and are all that stands there
+pub record Packs (ns : List ℕ) (r : Numbers) : Type 0 where
+  pub is : r ≡ packed ns
+  pub back : unpacked r ≡ ns

@@ -1,9 +1,8 @@
 // What an answer says, in numbers: those that document 01 gives for each of its cases.
 use crate::Checked;
 use crate::Refusal;
-ghost use mathlib.Core.Path.{_≡_};
 ghost use mathlib.Core.List.{[], _∷_};
-ghost use Rattle.image.specs.Promise.{numbers as numbersOf, packed};
+ghost use Rattle.image.specs.Promise.{numbers as numbersOf, Packs};
 ghost use Rattle.image.specs.Check.{checkedSays};
 
 // 0 or a refusal's number, how many values are returned beside it, and these, with 0 in the unused places.
@@ -18,7 +17,7 @@ pub struct Numbers {
 
 // A number with no value beside it.
 pub fn alone(number: u64) -> Numbers
-    ensures { λ r. ⌜ r ≡ packed (number ∷ []) ⌝ }
+    ensures { λ r. ⌜ Packs (number ∷ []) r ⌝ }
 {
     Numbers {
         number,
@@ -31,7 +30,7 @@ pub fn alone(number: u64) -> Numbers
 
 // A number with one value.
 pub fn with_one(number: u64, first: u64) -> Numbers
-    ensures { λ r. ⌜ r ≡ packed (number ∷ first ∷ []) ⌝ }
+    ensures { λ r. ⌜ Packs (number ∷ first ∷ []) r ⌝ }
 {
     Numbers {
         number,
@@ -44,7 +43,7 @@ pub fn with_one(number: u64, first: u64) -> Numbers
 
 // A number with two values.
 pub fn with_two(number: u64, first: u64, second: u64) -> Numbers
-    ensures { λ r. ⌜ r ≡ packed (number ∷ first ∷ second ∷ []) ⌝ }
+    ensures { λ r. ⌜ Packs (number ∷ first ∷ second ∷ []) r ⌝ }
 {
     Numbers {
         number,
@@ -57,7 +56,7 @@ pub fn with_two(number: u64, first: u64, second: u64) -> Numbers
 
 // A refusal's numbers.
 pub fn refused(r: Refusal) -> Numbers
-    ensures { λ n. ⌜ n ≡ packed (numbersOf r) ⌝ }
+    ensures { λ n. ⌜ Packs (numbersOf r) n ⌝ }
 {
     match r {
         Refusal::Mark => alone(1),
@@ -76,7 +75,7 @@ pub fn refused(r: Refusal) -> Numbers
 
 // The numbers of Check's answer.
 pub fn checked(c: Checked) -> Numbers
-    ensures { λ r. ⌜ r ≡ packed (checkedSays c) ⌝ }
+    ensures { λ r. ⌜ Packs (checkedSays c) r ⌝ }
 {
     match c {
         Checked::Good(counts) => Numbers {

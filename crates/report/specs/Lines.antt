@@ -1,28 +1,11 @@
--- The lines of the book as text, as document 01 has them.
-use mathlib.Core.Path.{_≡_}
+-- The line of what a call says, as the papers and the console's page have it.
 use mathlib.Core.List.{List, [], _∷_}
-use mathlib.Core.Option.{Option, none, some}
-use Prim.Native.Nat.{ℕ, _*_, _/_, _%_, _≤_, _<_}
-use lib.ListN.{length, take}
-use Rattle.board.specs.Test.{find}
-use Rattle.board.specs.Book.{lineFault}
-use Rattle.image.specs.Image.{lineCount, boardOf}
-use Rattle.image.specs.Refusals.{Accepted}
-use Rattle.report.specs.declared.entries.Line.{Line as Made}
-use Rattle.text.specs.Text.{form}
-
--- board 3 lines 1 inputs 1 outputs
-abbrev pub headerText : ℕ → ℕ → ℕ → List ℕ
-headerText lines ins outs = form "board # lines # inputs # outputs\n" (lines ∷ ins ∷ outs ∷ [])
-
--- 1/0 0, or 1/1 none
-abbrev pub entryText : ℕ → ℕ → Option ℕ → List ℕ
-entryText line stuck none = form "#/# none\n" (line ∷ stuck ∷ [])
-entryText line stuck (some p) = form "#/# #\n" (line ∷ stuck ∷ p ∷ [])
-
--- found 2 of 6
-abbrev pub totalText : ℕ → ℕ → List ℕ
-totalText found all = form "found # of #\n" (found ∷ all ∷ [])
+use mathlib.Core.Bool.{cond}
+use Prim.Native.Nat.{ℕ, zero, suc}
+use lib.Dec.{eqb}
+use lib.ListN.{length, getD}
+use Rattle.board.specs.Lists.{text}
+use Rattle.text.specs.Text.{spelled, form}
 
 -- refused 1, refused 5 at 0, refused 4 at 2.3: a refusal's number, and what else is returned
 abbrev pub refusedText : List ℕ → List ℕ
@@ -31,14 +14,34 @@ refusedText (n ∷ []) = form "refused #\n" (n ∷ [])
 refusedText (n ∷ place ∷ []) = form "refused # at #\n" (n ∷ place ∷ [])
 refusedText (n ∷ line ∷ field ∷ more) = form "refused # at #.#\n" (n ∷ line ∷ field ∷ [])
 
--- 1 for a pattern, 0 for none
-abbrev pub oneIfFound : Option ℕ → ℕ
-oneIfFound none = 0
-oneIfFound (some p) = 1
+-- a refusal's line, or where 0 is said the form with the values beside it
+unfoldable pub lineOf : List ℕ → List ℕ → List ℕ
+lineOf f [] = []
+lineOf f (zero ∷ vs) = spelled f vs
+lineOf f (suc n ∷ vs) = refusedText (suc n ∷ vs)
 
--- the line of entry k of an image's book, and 1 where the entry is not none: owed where the image is accepted and has such an entry
-pub record EntryOwes (s : List ℕ) (k : ℕ) (r : Made) (out : List ℕ) : Type 0 where
-  pub room : r .len ≤ length out
-  pub small : r .found ≤ 1
-  pub line : Accepted s → k < 2 * lineCount s → take (r .len) out ≡ entryText (k / 2) (k % 2) (find (boardOf s) (lineFault k))
-  pub counts : Accepted s → k < 2 * lineCount s → r .found ≡ oneIfFound (find (boardOf s) (lineFault k))
+-- Check's: board 3 lines 1 inputs 1 outputs
+abbrev pub checkedLine : List ℕ → List ℕ
+checkedLine said = lineOf (text "board # lines # inputs # outputs\n") said
+
+-- Rows' and Refresh's
+abbrev pub filledLine : List ℕ → List ℕ
+filledLine said = lineOf (text "filled\n") said
+
+-- Judge's: yes for 1, no for 0
+abbrev pub judgedLine : List ℕ → List ℕ
+judgedLine said = lineOf (cond (eqb (getD said 1 0) 1) (text "yes\n") (text "no\n")) said
+
+-- Find's: the pattern, or none where no value stands beside 0
+abbrev pub foundLine : List ℕ → List ℕ
+foundLine said = lineOf (cond (eqb (length said) 1) (text "none\n") (text "#\n")) said
+
+-- Five values': drives 1
+abbrev pub drivenLine : List ℕ → List ℕ
+drivenLine said = lineOf (text "drives #\n") said
+
+-- Book's and Alter's, for a book of that length: found 2 of 6
+unfoldable pub countedLine : ℕ → List ℕ → List ℕ
+countedLine all [] = []
+countedLine all (zero ∷ vs) = form "found # of #\n" (getD vs 0 0 ∷ all ∷ [])
+countedLine all (suc n ∷ vs) = refusedText (suc n ∷ vs)

@@ -1,3 +1,2 @@
-// The book as text: each line is made in a small buffer, by a function whose contract says which bytes.
-pub mod entries;
+// Lines made from what calls say, each in a small buffer by a function whose contract says which bytes.
 pub mod lines;

@@ -1,116 +1,76 @@
-// The lines of the book as text.
-use image::Refusal;
+// The line of what a call says.
+use image::said::Numbers;
 use text::form::spell;
-use text::put::put;
-ghost use mathlib.Core.Path.{_≡_};
-ghost use mathlib.Core.Option.{none, some};
-ghost use Prim.Native.Nat.{_≤_, _<_};
-ghost use lib.ListN.{length, getD};
-ghost use Rattle.image.specs.Check.{number};
+ghost use Prim.Native.Nat.{_+_, _≤_};
+ghost use lib.ListN.{length};
+ghost use Rattle.image.specs.Promise.{unpacked};
 ghost use Rattle.text.specs.Text.{Written, lineRoom};
-ghost use Rattle.report.specs.Lines.{headerText, entryText, totalText, refusedText};
-
-// A line as it stands.
-pub fn plain_line(bytes: &[u8], out: &mut [u8]) -> usize
-    requires { ⌜ length (now bytes) ≤ length (now out) ⌝ }
-    ensures { λ r. ⌜ Written r (now (out .exit)) (now (bytes .entry)) ⌝ }
-{
-    put(bytes, out, 0)
-}
-
-// The first line: board 3 lines 1 inputs 1 outputs.
-pub fn header_line(lines: usize, inputs: usize, outputs: usize, out: &mut [u8]) -> usize
-    requires { ⌜ lineRoom ≤ length (now out) ⌝ }
-    ensures { λ r. ⌜ Written r (now (out .exit)) (headerText lines inputs outputs) ⌝ }
-{
-    let counts = [lines as u64, inputs as u64, outputs as u64];
-    spell(b"board # lines # inputs # outputs\n", &counts, out)
-}
-
-// The line of an entry that is a pattern: 1/0 0.
-pub fn pattern_line(line: usize, stuck: u8, pattern: u64, out: &mut [u8]) -> usize
-    requires { ⌜ lineRoom ≤ length (now out) ⌝ }
-    ensures { λ r. ⌜ Written r (now (out .exit)) (entryText line stuck (some pattern)) ⌝ }
-{
-    spell(b"#/# #\n", &[line as u64, stuck as u64, pattern], out)
-}
-
-// The line of an entry that is none: 1/1 none.
-pub fn none_line(line: usize, stuck: u8, out: &mut [u8]) -> usize
-    requires { ⌜ lineRoom ≤ length (now out) ⌝ }
-    ensures { λ r. ⌜ Written r (now (out .exit)) (entryText line stuck none) ⌝ }
-{
-    spell(b"#/# none\n", &[line as u64, stuck as u64], out)
-}
-
-// The last line: found 2 of 6.
-pub fn total_line(found: usize, all: usize, out: &mut [u8]) -> usize
-    requires { ⌜ lineRoom ≤ length (now out) ⌝ }
-    ensures { λ r. ⌜ Written r (now (out .exit)) (totalText found all) ⌝ }
-{
-    spell(b"found # of #\n", &[found as u64, all as u64], out)
-}
-
-// The numbers of a refusal: how many there are, and the three of which they are the first.
-struct Numbers {
-    count: usize,
-    number: u64,
-    first: u64,
-    second: u64,
-}
-
-// A refusal's number by itself.
-fn alone(number: u64) -> Numbers
-    ensures { λ r. ⌜ (r .count ≡ 1) × (r .number ≡ number) × (r .first ≡ 0) × (r .second ≡ 0) ⌝ }
-{
-    Numbers {
-        count: 1,
-        number,
-        first: 0,
-        second: 0,
-    }
-}
-
-// A refusal's number, and what else is returned.
-fn numbers_of(r: Refusal) -> Numbers
-    ensures { λ n. ⌜ (0 < n .count) × (n .count ≡ length (number r)) × (n .number ≡ getD (number r) 0 0) × (n .first ≡ getD (number r) 1 0) × (n .second ≡ getD (number r) 2 0) ⌝ }
-{
-    match r {
-        Refusal::Mark => alone(1),
-        Refusal::Counts => alone(2),
-        Refusal::Distance => alone(3),
-        Refusal::Record { line, field } => Numbers {
-            count: 3,
-            number: 4,
-            first: line as u64,
-            second: field as u64,
-        },
-        Refusal::Output(place) => Numbers {
-            count: 2,
-            number: 5,
-            first: place as u64,
-            second: 0,
-        },
-        Refusal::Line => alone(6),
-        Refusal::Stuck => alone(7),
-        Refusal::Pattern => alone(8),
-        Refusal::Lent => alone(9),
-        Refusal::Alteration => alone(10),
-        Refusal::Row => alone(11),
-    }
-}
+ghost use Rattle.report.specs.Lines.{refusedText, lineOf, judgedLine, foundLine, countedLine};
 
 // A refusal's one line: refused 1, refused 5 at 0, or refused 4 at 2.3.
-pub fn refusal_line(r: Refusal, out: &mut [u8]) -> usize
+fn refused_line(n: Numbers, out: &mut [u8]) -> usize
     requires { ⌜ lineRoom ≤ length (now out) ⌝ }
-    ensures { λ n. ⌜ Written n (now (out .exit)) (refusedText (number r)) ⌝ }
+    ensures { λ r. ⌜ Written r (now (out .exit)) (refusedText (unpacked n)) ⌝ }
 {
-    let n = numbers_of(r);
-    if n.count == 1 {
+    if n.values == 0 {
         return spell(b"refused #\n", &[n.number], out);
     }
-    if n.count == 2 {
+    if n.values == 1 {
         return spell(b"refused # at #\n", &[n.number, n.first], out);
     }
     spell(b"refused # at #.#\n", &[n.number, n.first, n.second], out)
+}
+
+// A refusal's line, or the form with the values beside 0.
+pub fn answer_line(n: Numbers, form: &[u8], out: &mut [u8]) -> usize
+    requires { ⌜ (lineRoom ≤ length (now out)) × (length (now form) + 60 ≤ length (now out)) ⌝ }
+    ensures { λ r. ⌜ Written r (now (out .exit)) (lineOf (now (form .entry)) (unpacked n)) ⌝ }
+{
+    if n.number != 0 {
+        return refused_line(n, out);
+    }
+    if n.values == 0 {
+        return spell(form, &[], out);
+    }
+    if n.values == 1 {
+        return spell(form, &[n.first], out);
+    }
+    if n.values == 2 {
+        return spell(form, &[n.first, n.second], out);
+    }
+    spell(form, &[n.first, n.second, n.third], out)
+}
+
+// Judge's: yes or no.
+pub fn judged_line(n: Numbers, out: &mut [u8]) -> usize
+    requires { ⌜ lineRoom ≤ length (now out) ⌝ }
+    ensures { λ r. ⌜ Written r (now (out .exit)) (judgedLine (unpacked n)) ⌝ }
+{
+    if (0 < n.values) & (n.first == 1) {
+        return answer_line(n, b"yes\n", out);
+    }
+    answer_line(n, b"no\n", out)
+}
+
+// Find's: the pattern, or none.
+pub fn found_line(n: Numbers, out: &mut [u8]) -> usize
+    requires { ⌜ lineRoom ≤ length (now out) ⌝ }
+    ensures { λ r. ⌜ Written r (now (out .exit)) (foundLine (unpacked n)) ⌝ }
+{
+    if n.values == 0 {
+        return answer_line(n, b"none\n", out);
+    }
+    answer_line(n, b"#\n", out)
+}
+
+// Book's and Alter's, for a book of that length: found 2 of 6.
+pub fn counted_line(n: Numbers, all: usize, out: &mut [u8]) -> usize
+    requires { ⌜ lineRoom ≤ length (now out) ⌝ }
+    ensures { λ r. ⌜ Written r (now (out .exit)) (countedLine all (unpacked n)) ⌝ }
+{
+    if n.number != 0 {
+        return refused_line(n, out);
+    }
+    let found = if n.values == 0 { 0 } else { n.first };
+    spell(b"found # of #\n", &[found, all as u64], out)
 }

@@ -5,14 +5,13 @@ use image::said::Numbers;
 use image::said::alone;
 use image::said::refused;
 use image::said::with_one;
-ghost use mathlib.Core.Path.{_≡_};
-ghost use Rattle.image.specs.Promise.{packed};
+ghost use Rattle.image.specs.Promise.{Packs};
 ghost use Rattle.rows.specs.Rows.{filledSays};
 ghost use Rattle.rows.specs.Judge.{judgedSays};
 
 // The numbers of the answer of Rows and Refresh.
 pub fn filled(f: Filled) -> Numbers
-    ensures { λ r. ⌜ r ≡ packed (filledSays f) ⌝ }
+    ensures { λ r. ⌜ Packs (filledSays f) r ⌝ }
 {
     match f {
         Filled::Done => alone(0),
@@ -22,7 +21,7 @@ pub fn filled(f: Filled) -> Numbers
 
 // The numbers of Judge's answer.
 pub fn judged(j: Judged) -> Numbers
-    ensures { λ r. ⌜ r ≡ packed (judgedSays j) ⌝ }
+    ensures { λ r. ⌜ Packs (judgedSays j) r ⌝ }
 {
     match j {
         Judged::Yes => with_one(0, 1),

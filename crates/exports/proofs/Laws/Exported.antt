@@ -9,4 +9,4 @@ use Rattle.exports.specs.Exported.{Exported}
 pub exported-pinned : (p : Promise) (a b : Numbers) (left later : List (List ℕ)) → Exported p left a → Exported p later b → (a ≡ b) × (left ≡ later)
 exported-pinned p a b left later x y =
     let same = x .owed .answers ∙ sym (y .owed .answers) in
-    (x .crosses ∙ ap packed same ∙ sym (y .crosses), x .owed .leaves ∙ sym (y .owed .leaves))
+    (x .crosses .is ∙ ap packed same ∙ sym (y .crosses .is), x .owed .leaves ∙ sym (y .owed .leaves))

@@ -34,7 +34,7 @@ unfolding asked
 returns c =
     let start = c .before .before .before .before .before in
     let (part, whole) = lengths (c .before) in
-    record { said = _; owed = owes-done refl; crosses = c .with-two .ensures ∙ rw (whole, part, begins (asked start) (start .args .start)) }
+    record { said = _; owed = owes-done refl; crosses = rw (whole, part, begins (asked start) (start .args .start)) at (c .with-two .ensures) }
 
 pub fortizembo-show-spec : {M : Type 1} → statement M
 fortizembo-show-spec =
