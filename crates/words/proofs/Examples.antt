@@ -46,6 +46,9 @@ unread :
 unfolding commandOf table firstForm formFit wordFit parts last same every valueFrom isNumber isHex
 unread = (refl, refl, refl, refl, refl, refl, refl, refl, refl, refl, refl, refl)
 
-bytes : (hexBytes (text "0aF1") ≡ (10 ∷ 241 ∷ [])) × (hexBytes (text "-") ≡ [])
+-- each digit of HEX, and no bytes
+bytes :
+    (hexBytes (text "0123456789abcdefABCDEF") ≡ (1 ∷ 35 ∷ 69 ∷ 103 ∷ 137 ∷ 171 ∷ 205 ∷ 239 ∷ 171 ∷ 205 ∷ 239 ∷ []))
+    × (hexBytes (text "-") ≡ [])
 unfolding build
 bytes = (refl, refl)
