@@ -1,14 +1,11 @@
 -- What a command line asks for.
-use mathlib.Core.Path.{_≡_}
-use mathlib.Core.Bool.{true}
 use mathlib.Core.List.{List, [], _∷_, map}
-use Prim.Native.Nat.{ℕ, zero, suc, _-_, _≤_}
+use Prim.Native.Nat.{ℕ, zero, suc, _-_}
 use Prim.Native.String.{String}
-use lib.ListN.{length, drop}
+use lib.ListN.{length}
 use Rattle.board.specs.Lists.{text}
 use Rattle.words.specs.Parts.{words, sides, last}
 use Rattle.words.specs.Number.{numberAt}
-use Rattle.words.specs.Hex.{isHex}
 use Rattle.words.specs.Forms.{firstForm}
 use Rattle.words.specs.declared.command.Why.the-variants.{Empty, Unknown}
 use Rattle.words.specs.declared.command.Values.{Values}
@@ -86,42 +83,3 @@ formOf s = firstForm 0 (map itsForm (table (valuesOf s))) (words s)
 unfoldable pub commandOf : List ℕ → Command
 commandOf [] = Unread Empty
 commandOf (x ∷ xs) = asked (table (valuesOf (x ∷ xs))) (formOf (x ∷ xs))
-
--- the last word begins at a place; and is HEX
-pub record WordAt (s : List ℕ) (from : ℕ) : Type 0 where
-  pub room : from ≤ length s
-  pub is : drop from s ≡ last (words s)
-
-pub record HexAt (s : List ℕ) (from : ℕ) : Type 0 where
-  pub word : WordAt s from
-  pub hex : isHex (drop from s) ≡ true
-
--- what is known of a command's last word
-abbrev pub LastWord : List ℕ → Command → Type 0
-LastWord s (Load from) = HexAt s from
-LastWord s (Open from) = WordAt s from
-LastWord s (Save from) = WordAt s from
-LastWord s Image = Unit {0}
-LastWord s (LendRows good faulty) = Unit {0}
-LastWord s (LendBook numbers) = Unit {0}
-LastWord s (PutGood from) = HexAt s from
-LastWord s (PutFaulty from) = HexAt s from
-LastWord s (PutEntry place number) = Unit {0}
-LastWord s Check = Unit {0}
-LastWord s (Rows pattern line stuck) = Unit {0}
-LastWord s (Judge pattern line stuck) = Unit {0}
-LastWord s (Find line stuck) = Unit {0}
-LastWord s Book = Unit {0}
-LastWord s (Alter line from) = HexAt s from
-LastWord s (Refresh line pattern) = Unit {0}
-LastWord s (Five named values line stuck) = Unit {0}
-LastWord s (ShowGood start) = Unit {0}
-LastWord s (ShowFaulty start) = Unit {0}
-LastWord s Entries = Unit {0}
-LastWord s Help = Unit {0}
-LastWord s (Unread why) = Unit {0}
-
--- what is owed for a line: the one command, and what is known of its last word
-pub record ReadOwes (s : List ℕ) (r : Command) : Type 0 where
-  pub is : r ≡ commandOf s
-  pub word : LastWord s r

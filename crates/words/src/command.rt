@@ -5,7 +5,7 @@ use crate::number::number_at;
 use crate::parts::last_start;
 ghost use mathlib.Core.Path.{_≡_};
 ghost use Prim.Native.Nat.{_≤_};
-ghost use Rattle.words.specs.Command.{table, valuesOf, asksAt, WordAt, ReadOwes};
+ghost use Rattle.words.specs.Command.{table, valuesOf, asksAt, commandOf};
 
 // Why a line can't be read: it is empty, is no command, has too few or too many words, or a word is not what the command asks for there.
 pub enum Why {
@@ -100,7 +100,7 @@ pub struct Values {
 
 // Gives what a line's words stand for.
 fn values_of(line: &[u8]) -> Values
-    ensures { λ r. ⌜ (r ≡ valuesOf (now (line .entry))) × WordAt (now (line .entry)) (r .from) ⌝ }
+    ensures { λ r. ⌜ r ≡ valuesOf (now (line .entry)) ⌝ }
 {
     let from = last_start(line, b' ');
     Values {
@@ -193,7 +193,7 @@ fn shown(form: usize, v: Values) -> Command
 
 // Gives what a line, without its line feed, asks for.
 pub fn read(line: &[u8]) -> Command
-    ensures { λ r. ⌜ ReadOwes (now (line .entry)) r ⌝ }
+    ensures { λ r. ⌜ r ≡ commandOf (now (line .entry)) ⌝ }
 {
     if line.len() == 0 {
         return Command::Unread(Why::Empty);

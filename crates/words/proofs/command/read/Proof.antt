@@ -34,7 +34,7 @@ returns-3 c =
     let place = values .before .before in
     let form = place .before .before in
     read-row (form .before .before .before .args .line .now) (values .values-of .result) _ (c .asked .result) (form .before .if1 .left)
-    (values .values-of .ensures .0) (values .values-of .ensures .1) (sym (place .k .given .1) ∙ form .form-of .ensures) (c .asked .ensures)
+    (values .values-of .ensures) (sym (place .k .given .1) ∙ form .form-of .ensures) (c .asked .ensures)
 
 pub read-spec : {M : Type 1} → statement M
 read-spec =

@@ -2,7 +2,6 @@
 use mathlib.Core.Path.{ap, _∙_}
 use Rattle.words.specs.Parts.{parts}
 use Rattle.words.specs.Number.{numberAt}
-use Rattle.words.specs.Command.{WordAt}
 use Rattle.words.proofs.Laws.Command.{word-from, word-rest}
 use borrow.Author.Needs.{needs}
 use Rattle.words.proofs.command.values_of.Statement.{statement}
@@ -50,17 +49,15 @@ returns c =
     let start = third .before .before .before in
     let s = start .before .before .args .line .now in
     let from = start .last-start .result in
-    let here : WordAt s from = record { room = start .last-start .ensures .0; is = start .last-start .ensures .1 } in
-    let rest = word-rest s from here in (
-      cc (
-        third .before .before .number-at .ensures,
-        third .before .number-at2 .ensures,
-        third .number-at3 .ensures,
-        c .before .before .number-at4 .ensures ∙ ap (λ w. numberAt (parts 47 w) 0) rest,
-        c .number-at5 .ensures ∙ ap (λ w. numberAt (parts 47 w) 1) rest,
-        word-from s from here,
-      ),
-      here,
+    let (room, is) = start .last-start .ensures in
+    let rest = word-rest s from room is in
+    cc (
+      third .before .before .number-at .ensures,
+      third .before .number-at2 .ensures,
+      third .number-at3 .ensures,
+      c .before .before .number-at4 .ensures ∙ ap (λ w. numberAt (parts 47 w) 0) rest,
+      c .number-at5 .ensures ∙ ap (λ w. numberAt (parts 47 w) 1) rest,
+      word-from s from room is,
     )
 
 pub values-of-spec : {M : Type 1} → statement M
