@@ -9,7 +9,7 @@ use Rattle.words.specs.Number.{isAll}
 use Rattle.words.specs.declared.sorts.Sort.the-variants.{Hex}
 
 -- a word that is HEX
-unfoldable pub isHex : List ℕ → Bool
+abbrev pub isHex : List ℕ → Bool
 isHex w = same w (text "-") || (eqb (length w % 2) 0 && isAll Hex w)
 
 -- the value of a digit: its four low bits, and 9 more for a letter (A is byte 65, a 97); of any other byte, some number below 16

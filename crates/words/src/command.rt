@@ -1,8 +1,12 @@
 // What a command line asks for.
+use crate::fault::fault_of;
 use crate::forms::Form;
 use crate::forms::form_of;
 use crate::number::number_at;
 use crate::parts::last_start;
+use crate::parts::next_start;
+use crate::parts::tail;
+use board::Fault;
 ghost use mathlib.Core.Path.{_≡_};
 ghost use Prim.Native.Nat.{_≤_};
 ghost use Rattle.words.specs.Command.{table, valuesOf, asksAt, commandOf};
@@ -30,12 +34,17 @@ pub enum Command {
         from: usize,
     },
     Image,
+    Check,
+    Judge {
+        pattern: u64,
+        fault: Fault,
+    },
+    Find {
+        fault: Fault,
+    },
     LendRows {
         good: u64,
         faulty: u64,
-    },
-    LendBook {
-        numbers: u64,
     },
     PutGood {
         from: usize,
@@ -43,29 +52,9 @@ pub enum Command {
     PutFaulty {
         from: usize,
     },
-    PutEntry {
-        place: u64,
-        number: u64,
-    },
-    Check,
     Rows {
         pattern: u64,
-        line: u64,
-        stuck: u64,
-    },
-    Judge {
-        pattern: u64,
-        line: u64,
-        stuck: u64,
-    },
-    Find {
-        line: u64,
-        stuck: u64,
-    },
-    Book,
-    Alter {
-        line: u64,
-        from: usize,
+        fault: Fault,
     },
     Refresh {
         line: u64,
@@ -74,8 +63,7 @@ pub enum Command {
     Five {
         named: u64,
         values: u64,
-        line: u64,
-        stuck: u64,
+        fault: Fault,
     },
     ShowGood {
         start: u64,
@@ -83,18 +71,29 @@ pub enum Command {
     ShowFaulty {
         start: u64,
     },
+    LendBook {
+        numbers: u64,
+    },
+    PutEntry {
+        place: u64,
+        number: u64,
+    },
+    Book,
+    Alter {
+        line: u64,
+        from: usize,
+    },
     Entries,
     Help,
     Unread(Why),
 }
 
-// What a line's words stand for, each as a number and the last as a fault too; and where the last begins.
+// What a line's words stand for: words 1, 2 and 3 as numbers, the last as a fault, and where the last begins.
 pub struct Values {
     pub one: u64,
     pub two: u64,
     pub three: u64,
-    pub line: u64,
-    pub stuck: u64,
+    pub fault: Fault,
     pub from: usize,
 }
 
@@ -102,89 +101,88 @@ pub struct Values {
 fn values_of(line: &[u8]) -> Values
     ensures { λ r. ⌜ r ≡ valuesOf (now (line .entry)) ⌝ }
 {
+    let first = next_start(line, b' ', 0);
+    let second = next_start(line, b' ', first);
+    let third = next_start(line, b' ', second);
     let from = last_start(line, b' ');
+    let fault = fault_of(tail(line, from)).fault;
     Values {
-        one: number_at(line, b' ', 1),
-        two: number_at(line, b' ', 2),
-        three: number_at(line, b' ', 3),
-        line: number_at(&line[from..], b'/', 0),
-        stuck: number_at(&line[from..], b'/', 1),
+        one: number_at(line, b' ', first),
+        two: number_at(line, b' ', second),
+        three: number_at(line, b' ', third),
+        fault,
         from,
     }
 }
 
-// Gives what the form at a place asks for: the forms up to `put entry`.
+// Gives what the form at a place asks for: the forms up to `find`.
 fn asked(form: usize, v: Values) -> Command
     ensures { λ r. ⌜ r ≡ asksAt (table v) form ⌝ }
 {
+    let fault = v.fault;
     match form {
         0 => Command::Load { from: v.from },
         1 => Command::Open { from: v.from },
         2 => Command::Save { from: v.from },
         3 => Command::Image,
-        4 => Command::LendRows {
-            good: v.two,
-            faulty: v.three,
+        4 => Command::Check,
+        5 => Command::Judge {
+            pattern: v.one,
+            fault,
         },
-        5 => Command::LendBook { numbers: v.two },
-        6 => Command::PutGood { from: v.from },
-        7 => Command::PutFaulty { from: v.from },
-        8 => Command::PutEntry {
-            place: v.two,
-            number: v.three,
-        },
+        6 => Command::Find { fault },
         _ => called(form, v),
     }
 }
 
-// The same from `check` up to `five`.
+// The same from `lend rows` up to `show faulty`.
 fn called(form: usize, v: Values) -> Command
-    requires { ⌜ 9 ≤ form ⌝ }
+    requires { ⌜ 7 ≤ form ⌝ }
     ensures { λ r. ⌜ r ≡ asksAt (table v) form ⌝ }
 {
+    let fault = v.fault;
     match form {
-        9 => Command::Check,
+        7 => Command::LendRows {
+            good: v.two,
+            faulty: v.three,
+        },
+        8 => Command::PutGood { from: v.from },
+        9 => Command::PutFaulty { from: v.from },
         10 => Command::Rows {
             pattern: v.one,
-            line: v.line,
-            stuck: v.stuck,
+            fault,
         },
-        11 => Command::Judge {
-            pattern: v.one,
-            line: v.line,
-            stuck: v.stuck,
-        },
-        12 => Command::Find {
-            line: v.line,
-            stuck: v.stuck,
-        },
-        13 => Command::Book,
-        14 => Command::Alter {
-            line: v.one,
-            from: v.from,
-        },
-        15 => Command::Refresh {
+        11 => Command::Refresh {
             line: v.one,
             pattern: v.two,
         },
-        16 => Command::Five {
+        12 => Command::Five {
             named: v.one,
             values: v.two,
-            line: v.line,
-            stuck: v.stuck,
+            fault,
         },
+        13 => Command::ShowGood { start: v.two },
+        14 => Command::ShowFaulty { start: v.two },
         _ => shown(form, v),
     }
 }
 
-// The same from `show good` on.
+// The same from `lend book` on.
 fn shown(form: usize, v: Values) -> Command
-    requires { ⌜ 17 ≤ form ⌝ }
+    requires { ⌜ 15 ≤ form ⌝ }
     ensures { λ r. ⌜ r ≡ asksAt (table v) form ⌝ }
 {
     match form {
-        17 => Command::ShowGood { start: v.two },
-        18 => Command::ShowFaulty { start: v.two },
+        15 => Command::LendBook { numbers: v.two },
+        16 => Command::PutEntry {
+            place: v.two,
+            number: v.three,
+        },
+        17 => Command::Book,
+        18 => Command::Alter {
+            line: v.one,
+            from: v.from,
+        },
         19 => Command::Entries,
         20 => Command::Help,
         _ => Command::Unread(Why::Unknown),
@@ -195,9 +193,6 @@ fn shown(form: usize, v: Values) -> Command
 pub fn read(line: &[u8]) -> Command
     ensures { λ r. ⌜ r ≡ commandOf (now (line .entry)) ⌝ }
 {
-    if line.len() == 0 {
-        return Command::Unread(Why::Empty);
-    }
     match form_of(line) {
         Form::None(why) => Command::Unread(why),
         Form::At(k) => asked(k, values_of(line)),

@@ -1,4 +1,5 @@
 // HEX: two digits a byte, lower or upper case; `-` is no bytes.
+use crate::parts::fewer;
 use crate::parts::is_same;
 use crate::sorts::Sort;
 use crate::sorts::is_all;
@@ -34,13 +35,6 @@ fn byte_of(high: u8, low: u8) -> u8
     ensures { λ r. ⌜ r ≡ 16 * hexDigit high + hexDigit low ⌝ }
 {
     16 * digit(high) + digit(low)
-}
-
-// The fewer of two counts.
-fn fewer(a: usize, b: usize) -> usize
-    ensures { λ r. ⌜ r ≡ min a b ⌝ }
-{
-    if a < b { a } else { b }
 }
 
 // Puts the bytes that a word stands for at the front of a buffer, as many as it has room for, and gives how many.
