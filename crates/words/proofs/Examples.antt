@@ -12,7 +12,11 @@ use Rattle.words.specs.Forms.{wordFit, formFit, firstForm}
 use Rattle.words.specs.Command.{table, commandOf}
 use Rattle.words.specs.declared.command.Why.the-variants.{Empty, Unknown, Words, Number, Fault as NoFault, Hex, Path}
 use Rattle.words.specs.declared.command.Command.{Command}
-use Rattle.words.specs.declared.command.Command.the-variants.{Load, Open, LendRows, PutEntry, Rows, Find, Book, Alter, Five, Unread}
+use Rattle.words.specs.declared.command.Command.the-variants.{Anew, OnImage, OnRows, OnBook, Unread}
+use Rattle.words.specs.declared.command.Anew.the-variants.{Load, Open}
+use Rattle.words.specs.declared.command.OnImage.the-variants.{Find}
+use Rattle.words.specs.declared.command.OnRows.the-variants.{Lend, Rows, Five}
+use Rattle.words.specs.declared.command.OnBook.the-variants.{Put, Book, Alter}
 
 abbrev asks : String → Command
 asks line = commandOf (text line)
@@ -22,15 +26,15 @@ at l s = record { line = l; stuck = s }
 
 -- the largest number of 64 bits is read, and a stuck value that is wider than a byte is 255
 read :
-    (asks "find 4/0" ≡ Find (at 4 0))
-    × (asks "rows 6 4/1" ≡ Rows 6 (at 4 1))
-    × (asks "five 3 1 004/300" ≡ Five 3 1 (at 4 255))
-    × (asks "put entry 3 18446744073709551615" ≡ PutEntry 3 18_446_744_073_709_551_615)
-    × (asks "lend rows 0 8192" ≡ LendRows 0 8_192)
-    × (asks "book" ≡ Book)
-    × (asks "load -" ≡ Load 5)
-    × (asks "alter 3 0aF1" ≡ Alter 3 8)
-    × (asks "open a/b" ≡ Open 5)
+    (asks "find 4/0" ≡ OnImage (Find (at 4 0)))
+    × (asks "rows 6 4/1" ≡ OnRows (Rows 6 (at 4 1)))
+    × (asks "five 3 1 004/300" ≡ OnRows (Five 3 1 (at 4 255)))
+    × (asks "put entry 3 18446744073709551615" ≡ OnBook (Put 3 18_446_744_073_709_551_615))
+    × (asks "lend rows 0 8192" ≡ OnRows (Lend 0 8_192))
+    × (asks "book" ≡ OnBook Book)
+    × (asks "load -" ≡ Anew (Load 5))
+    × (asks "alter 3 0aF1" ≡ OnBook (Alter 3 8))
+    × (asks "open a/b" ≡ Anew (Open 5))
 unfolding table firstForm formFit wordFit parts last same every valueFrom numberOf
 read = (refl, refl, refl, refl, refl, refl, refl, refl, refl)
 

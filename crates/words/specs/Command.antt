@@ -13,7 +13,11 @@ use Rattle.words.specs.Forms.{firstForm}
 use Rattle.words.specs.declared.command.Why.the-variants.{Empty, Unknown}
 use Rattle.words.specs.declared.command.Values.{Values}
 use Rattle.words.specs.declared.command.Command.{Command}
-use Rattle.words.specs.declared.command.Command.the-variants.{Load, Open, Save, Image, Check, Judge, Find, LendRows, PutGood, PutFaulty, Rows, Refresh, Five, ShowGood, ShowFaulty, LendBook, PutEntry, Book, Alter, Entries, Help, Unread}
+use Rattle.words.specs.declared.command.Command.the-variants.{Anew, OnImage, OnRows, OnBook, Help, Unread}
+use Rattle.words.specs.declared.command.Anew.the-variants.{Load, Open}
+use Rattle.words.specs.declared.command.OnImage.the-variants.{Save, Image, Check, Judge, Find}
+use Rattle.words.specs.declared.command.OnRows.the-variants.{Lend as LendRows, PutGood, PutFaulty, Rows, Refresh, Five, ShowGood, ShowFaulty}
+use Rattle.words.specs.declared.command.OnBook.the-variants.{Lend as LendBook, Put, Book, Alter, Entries}
 use Rattle.words.specs.declared.forms.Form.{Form}
 use Rattle.words.specs.declared.forms.Form.the-variants.{At, None}
 
@@ -33,26 +37,26 @@ itsForm r = r .form
 -- the commands of the console's page, each with its form: N a number, F a fault, H HEX, P a path
 unfoldable pub table : Values → List Row
 table v =
-    row "load H" (Load (v .from))
-    ∷ row "open P" (Open (v .from))
-    ∷ row "save P" (Save (v .from))
-    ∷ row "image" Image
-    ∷ row "check" Check
-    ∷ row "judge N F" (Judge (v .one) (v .fault))
-    ∷ row "find F" (Find (v .fault))
-    ∷ row "lend rows N N" (LendRows (v .two) (v .three))
-    ∷ row "put good H" (PutGood (v .from))
-    ∷ row "put faulty H" (PutFaulty (v .from))
-    ∷ row "rows N F" (Rows (v .one) (v .fault))
-    ∷ row "refresh N N" (Refresh (v .one) (v .two))
-    ∷ row "five N N F" (Five (v .one) (v .two) (v .fault))
-    ∷ row "show good N" (ShowGood (v .two))
-    ∷ row "show faulty N" (ShowFaulty (v .two))
-    ∷ row "lend book N" (LendBook (v .two))
-    ∷ row "put entry N N" (PutEntry (v .two) (v .three))
-    ∷ row "book" Book
-    ∷ row "alter N H" (Alter (v .one) (v .from))
-    ∷ row "entries" Entries
+    row "load H" (Anew (Load (v .from)))
+    ∷ row "open P" (Anew (Open (v .from)))
+    ∷ row "save P" (OnImage (Save (v .from)))
+    ∷ row "image" (OnImage Image)
+    ∷ row "check" (OnImage Check)
+    ∷ row "judge N F" (OnImage (Judge (v .one) (v .fault)))
+    ∷ row "find F" (OnImage (Find (v .fault)))
+    ∷ row "lend rows N N" (OnRows (LendRows (v .two) (v .three)))
+    ∷ row "put good H" (OnRows (PutGood (v .from)))
+    ∷ row "put faulty H" (OnRows (PutFaulty (v .from)))
+    ∷ row "rows N F" (OnRows (Rows (v .one) (v .fault)))
+    ∷ row "refresh N N" (OnRows (Refresh (v .one) (v .two)))
+    ∷ row "five N N F" (OnRows (Five (v .one) (v .two) (v .fault)))
+    ∷ row "show good N" (OnRows (ShowGood (v .two)))
+    ∷ row "show faulty N" (OnRows (ShowFaulty (v .two)))
+    ∷ row "lend book N" (OnBook (LendBook (v .two)))
+    ∷ row "put entry N N" (OnBook (Put (v .two) (v .three)))
+    ∷ row "book" (OnBook Book)
+    ∷ row "alter N H" (OnBook (Alter (v .one) (v .from)))
+    ∷ row "entries" (OnBook Entries)
     ∷ row "help" Help
     ∷ []
 

@@ -22,27 +22,24 @@ pub enum Why {
     Path,
 }
 
-// `from` is where the line's last word begins.
-pub enum Command {
-    Load {
-        from: usize,
-    },
-    Open {
-        from: usize,
-    },
-    Save {
-        from: usize,
-    },
+// The commands, by what they use; `from` is where the line's last word begins. First those that bring a new image.
+pub enum Anew {
+    Load { from: usize },
+    Open { from: usize },
+}
+
+// Those that use the image alone.
+pub enum OnImage {
+    Save { from: usize },
     Image,
     Check,
-    Judge {
-        pattern: u64,
-        fault: Fault,
-    },
-    Find {
-        fault: Fault,
-    },
-    LendRows {
+    Judge { pattern: u64, fault: Fault },
+    Find { fault: Fault },
+}
+
+// Those that use the rows.
+pub enum OnRows {
+    Lend {
         good: u64,
         faulty: u64,
     },
@@ -71,19 +68,23 @@ pub enum Command {
     ShowFaulty {
         start: u64,
     },
-    LendBook {
-        numbers: u64,
-    },
-    PutEntry {
-        place: u64,
-        number: u64,
-    },
+}
+
+// Those that use the book.
+pub enum OnBook {
+    Lend { numbers: u64 },
+    Put { place: u64, number: u64 },
     Book,
-    Alter {
-        line: u64,
-        from: usize,
-    },
+    Alter { line: u64, from: usize },
     Entries,
+}
+
+// What a line asks for, or why it can't be read.
+pub enum Command {
+    Anew(Anew),
+    OnImage(OnImage),
+    OnRows(OnRows),
+    OnBook(OnBook),
     Help,
     Unread(Why),
 }
@@ -115,75 +116,75 @@ fn values_of(line: &[u8]) -> Values
     }
 }
 
-// Gives what the form at a place asks for: the forms up to `find`.
+// Gives what the form at a place asks for: a new image, or a command on the image alone.
 fn asked(form: usize, v: Values) -> Command
     ensures { λ r. ⌜ r ≡ asksAt (table v) form ⌝ }
 {
     let fault = v.fault;
     match form {
-        0 => Command::Load { from: v.from },
-        1 => Command::Open { from: v.from },
-        2 => Command::Save { from: v.from },
-        3 => Command::Image,
-        4 => Command::Check,
-        5 => Command::Judge {
+        0 => Command::Anew(Anew::Load { from: v.from }),
+        1 => Command::Anew(Anew::Open { from: v.from }),
+        2 => Command::OnImage(OnImage::Save { from: v.from }),
+        3 => Command::OnImage(OnImage::Image),
+        4 => Command::OnImage(OnImage::Check),
+        5 => Command::OnImage(OnImage::Judge {
             pattern: v.one,
             fault,
-        },
-        6 => Command::Find { fault },
-        _ => called(form, v),
+        }),
+        6 => Command::OnImage(OnImage::Find { fault }),
+        _ => asked_on_rows(form, v),
     }
 }
 
-// The same from `lend rows` up to `show faulty`.
-fn called(form: usize, v: Values) -> Command
+// The same for the commands on the rows.
+fn asked_on_rows(form: usize, v: Values) -> Command
     requires { ⌜ 7 ≤ form ⌝ }
     ensures { λ r. ⌜ r ≡ asksAt (table v) form ⌝ }
 {
     let fault = v.fault;
     match form {
-        7 => Command::LendRows {
+        7 => Command::OnRows(OnRows::Lend {
             good: v.two,
             faulty: v.three,
-        },
-        8 => Command::PutGood { from: v.from },
-        9 => Command::PutFaulty { from: v.from },
-        10 => Command::Rows {
+        }),
+        8 => Command::OnRows(OnRows::PutGood { from: v.from }),
+        9 => Command::OnRows(OnRows::PutFaulty { from: v.from }),
+        10 => Command::OnRows(OnRows::Rows {
             pattern: v.one,
             fault,
-        },
-        11 => Command::Refresh {
+        }),
+        11 => Command::OnRows(OnRows::Refresh {
             line: v.one,
             pattern: v.two,
-        },
-        12 => Command::Five {
+        }),
+        12 => Command::OnRows(OnRows::Five {
             named: v.one,
             values: v.two,
             fault,
-        },
-        13 => Command::ShowGood { start: v.two },
-        14 => Command::ShowFaulty { start: v.two },
-        _ => shown(form, v),
+        }),
+        13 => Command::OnRows(OnRows::ShowGood { start: v.two }),
+        14 => Command::OnRows(OnRows::ShowFaulty { start: v.two }),
+        _ => asked_on_book(form, v),
     }
 }
 
-// The same from `lend book` on.
-fn shown(form: usize, v: Values) -> Command
+// The same for the commands on the book, and for `help`.
+fn asked_on_book(form: usize, v: Values) -> Command
     requires { ⌜ 15 ≤ form ⌝ }
     ensures { λ r. ⌜ r ≡ asksAt (table v) form ⌝ }
 {
     match form {
-        15 => Command::LendBook { numbers: v.two },
-        16 => Command::PutEntry {
+        15 => Command::OnBook(OnBook::Lend { numbers: v.two }),
+        16 => Command::OnBook(OnBook::Put {
             place: v.two,
             number: v.three,
-        },
-        17 => Command::Book,
-        18 => Command::Alter {
+        }),
+        17 => Command::OnBook(OnBook::Book),
+        18 => Command::OnBook(OnBook::Alter {
             line: v.one,
             from: v.from,
-        },
-        19 => Command::Entries,
+        }),
+        19 => Command::OnBook(OnBook::Entries),
         20 => Command::Help,
         _ => Command::Unread(Why::Unknown),
     }

@@ -1,12 +1,12 @@
--- `words::command::shown` meets its contract, row by row of the table.
+-- `words::command::asked_on_book` meets its contract, row by row of the table.
 use Rattle.words.specs.Command.{table}
 use Rattle.words.proofs.Laws.Command.{asks-past, past-them}
-use Rattle.words.proofs.command.shown.Statement.{statement}
-use Rattle.words.proofs.command.shown.Tie as tie
+use Rattle.words.proofs.command.asked_on_book.Statement.{statement}
+use Rattle.words.proofs.command.asked_on_book.Tie as tie
 
-pub shown-spec : {M : Type 1} → statement M
+pub asked-on-book-spec : {M : Type 1} → statement M
 unfolding table
-shown-spec =
+asked-on-book-spec =
     tie.close
     (tie.spec
     (λ c. rw (c .match .keys1))

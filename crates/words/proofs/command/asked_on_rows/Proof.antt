@@ -1,13 +1,13 @@
--- `words::command::called` meets its contract, row by row of the table.
+-- `words::command::asked_on_rows` meets its contract, row by row of the table.
 use Rattle.words.specs.Command.{table}
 use Rattle.words.proofs.Laws.Command.{past-them}
 use borrow.Author.Needs.{needs}
-use Rattle.words.proofs.command.called.Statement.{statement}
-use Rattle.words.proofs.command.called.Tie as tie
+use Rattle.words.proofs.command.asked_on_rows.Statement.{statement}
+use Rattle.words.proofs.command.asked_on_rows.Tie as tie
 
-pub called-spec : {M : Type 1} → statement M
+pub asked-on-rows-spec : {M : Type 1} → statement M
 unfolding table
-called-spec =
+asked-on-rows-spec =
     tie.close
     (tie.spec
     (λ c κs. past-them _ 7 8 (c .before .before .pre) (c .match .rest))
