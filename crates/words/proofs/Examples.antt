@@ -1,51 +1,65 @@
 -- The definitions compute: lines of the console's page and lines that can't be read, each checked by running the definition.
 use mathlib.Core.Path.{_≡_, refl}
 use mathlib.Core.List.{[], _∷_}
+use Prim.Native.Nat.{ℕ}
 use Prim.Native.String.{String}
 use Rattle.board.specs.Lists.{build, text, same}
+use Rattle.board.specs.declared.Fault.{Fault}
 use Rattle.words.specs.Parts.{parts, last}
-use Rattle.words.specs.Number.{every, valueFrom, isNumber}
-use Rattle.words.specs.Hex.{isHex, hexBytes}
+use Rattle.words.specs.Number.{every, valueFrom, numberOf}
+use Rattle.words.specs.Hex.{hexBytes}
 use Rattle.words.specs.Forms.{wordFit, formFit, firstForm}
 use Rattle.words.specs.Command.{table, commandOf}
-use Rattle.words.specs.declared.command.Why.the-variants.{Empty, Unknown, Words, Number, Fault, Hex, Path}
+use Rattle.words.specs.declared.command.Why.the-variants.{Empty, Unknown, Words, Number, Fault as NoFault, Hex, Path}
 use Rattle.words.specs.declared.command.Command.{Command}
-use Rattle.words.specs.declared.command.Command.the-variants.{Load, Open, LendRows, PutEntry, Rows, Find, Book, Alter, Five, Unread}
+use Rattle.words.specs.declared.command.Command.the-variants.{Anew, OnImage, OnRows, OnBook, Unread}
+use Rattle.words.specs.declared.command.Anew.the-variants.{Load, Open}
+use Rattle.words.specs.declared.command.OnImage.the-variants.{Find}
+use Rattle.words.specs.declared.command.OnRows.the-variants.{Lend, Rows, Five}
+use Rattle.words.specs.declared.command.OnBook.the-variants.{Put, Book, Alter}
 
 abbrev asks : String → Command
 asks line = commandOf (text line)
 
--- the largest number of 64 bits is read
+abbrev at : ℕ → ℕ → Fault
+at l s = record { line = l; stuck = s }
+
+-- the largest number of 64 bits is read, and a stuck value that is wider than a byte is 255
 read :
-    (asks "find 4/0" ≡ Find 4 0)
-    × (asks "rows 6 4/1" ≡ Rows 6 4 1)
-    × (asks "five 3 1 004/300" ≡ Five 3 1 4 300)
-    × (asks "put entry 3 18446744073709551615" ≡ PutEntry 3 18_446_744_073_709_551_615)
-    × (asks "lend rows 0 8192" ≡ LendRows 0 8_192)
-    × (asks "book" ≡ Book)
-    × (asks "load -" ≡ Load 5)
-    × (asks "alter 3 0aF1" ≡ Alter 3 8)
-    × (asks "open a/b" ≡ Open 5)
-unfolding commandOf table firstForm formFit wordFit parts last same every valueFrom isNumber isHex
+    (asks "find 4/0" ≡ OnImage (Find (at 4 0)))
+    × (asks "rows 6 4/1" ≡ OnRows (Rows 6 (at 4 1)))
+    × (asks "five 3 1 004/300" ≡ OnRows (Five 3 1 (at 4 255)))
+    × (asks "put entry 3 18446744073709551615" ≡ OnBook (Put 3 18_446_744_073_709_551_615))
+    × (asks "lend rows 0 8192" ≡ OnRows (Lend 0 8_192))
+    × (asks "book" ≡ OnBook Book)
+    × (asks "load -" ≡ Anew (Load 5))
+    × (asks "alter 3 0aF1" ≡ OnBook (Alter 3 8))
+    × (asks "open a/b" ≡ Anew (Open 5))
+unfolding table firstForm formFit wordFit parts last same every valueFrom numberOf
 read = (refl, refl, refl, refl, refl, refl, refl, refl, refl)
 
 -- and the next is not; nor is a word where a space stands too many
 unread :
     (asks "put entry 3 18446744073709551616" ≡ Unread Number)
-    × (asks "find  4/0" ≡ Unread Fault)
+    × (asks "find  4/0" ≡ Unread NoFault)
     × (asks " find 4/0" ≡ Unread Unknown)
     × (asks "book " ≡ Unread Words)
     × (asks "load " ≡ Unread Hex)
     × (asks "" ≡ Unread Empty)
-    × (asks "find 4/" ≡ Unread Fault)
-    × (asks "find 4/0/1" ≡ Unread Fault)
+    × (asks "find 4/" ≡ Unread NoFault)
+    × (asks "find 4" ≡ Unread NoFault)
+    × (asks "find 4/0/1" ≡ Unread NoFault)
     × (asks "load abc" ≡ Unread Hex)
     × (asks "open a\tb" ≡ Unread Path)
     × (asks "find" ≡ Unread Words)
+    × (asks "put" ≡ Unread Unknown)
     × (asks "Book" ≡ Unread Unknown)
-unfolding commandOf table firstForm formFit wordFit parts last same every valueFrom isNumber isHex
-unread = (refl, refl, refl, refl, refl, refl, refl, refl, refl, refl, refl, refl)
+unfolding table firstForm formFit wordFit parts last same every valueFrom numberOf
+unread = (refl, refl, refl, refl, refl, refl, refl, refl, refl, refl, refl, refl, refl, refl)
 
-bytes : (hexBytes (text "0aF1") ≡ (10 ∷ 241 ∷ [])) × (hexBytes (text "-") ≡ [])
+-- each digit of HEX, and no bytes
+bytes :
+    (hexBytes (text "0123456789abcdefABCDEF") ≡ (1 ∷ 35 ∷ 69 ∷ 103 ∷ 137 ∷ 171 ∷ 205 ∷ 239 ∷ 171 ∷ 205 ∷ 239 ∷ []))
+    × (hexBytes (text "-") ≡ [])
 unfolding build
 bytes = (refl, refl)

@@ -1,19 +1,23 @@
 -- What a command line asks for.
-use mathlib.Core.Path.{_≡_}
-use mathlib.Core.Bool.{true}
+use mathlib.Core.Bool.{cond}
 use mathlib.Core.List.{List, [], _∷_, map}
-use Prim.Native.Nat.{ℕ, zero, suc, _-_, _≤_}
+use Prim.Native.Nat.{ℕ, zero, suc, _-_}
 use Prim.Native.String.{String}
-use lib.ListN.{length, drop}
+use lib.Dec.{eqb}
+use lib.ListN.{length}
 use Rattle.board.specs.Lists.{text}
-use Rattle.words.specs.Parts.{words, sides, last}
+use Rattle.words.specs.Parts.{words, last}
 use Rattle.words.specs.Number.{numberAt}
-use Rattle.words.specs.Hex.{isHex}
+use Rattle.words.specs.Fault.{faultOf}
 use Rattle.words.specs.Forms.{firstForm}
 use Rattle.words.specs.declared.command.Why.the-variants.{Empty, Unknown}
 use Rattle.words.specs.declared.command.Values.{Values}
 use Rattle.words.specs.declared.command.Command.{Command}
-use Rattle.words.specs.declared.command.Command.the-variants.{Load, Open, Save, Image, LendRows, LendBook, PutGood, PutFaulty, PutEntry, Check, Rows, Judge, Find, Book, Alter, Refresh, Five, ShowGood, ShowFaulty, Entries, Help, Unread}
+use Rattle.words.specs.declared.command.Command.the-variants.{Anew, OnImage, OnRows, OnBook, Help, Unread}
+use Rattle.words.specs.declared.command.Anew.the-variants.{Load, Open}
+use Rattle.words.specs.declared.command.OnImage.the-variants.{Save, Image, Check, Judge, Find}
+use Rattle.words.specs.declared.command.OnRows.the-variants.{Lend as LendRows, PutGood, PutFaulty, Rows, Refresh, Five, ShowGood, ShowFaulty}
+use Rattle.words.specs.declared.command.OnBook.the-variants.{Lend as LendBook, Put, Book, Alter, Entries}
 use Rattle.words.specs.declared.forms.Form.{Form}
 use Rattle.words.specs.declared.forms.Form.the-variants.{At, None}
 
@@ -33,37 +37,36 @@ itsForm r = r .form
 -- the commands of the console's page, each with its form: N a number, F a fault, H HEX, P a path
 unfoldable pub table : Values → List Row
 table v =
-    row "load H" (Load (v .from))
-    ∷ row "open P" (Open (v .from))
-    ∷ row "save P" (Save (v .from))
-    ∷ row "image" Image
-    ∷ row "lend rows N N" (LendRows (v .two) (v .three))
-    ∷ row "lend book N" (LendBook (v .two))
-    ∷ row "put good H" (PutGood (v .from))
-    ∷ row "put faulty H" (PutFaulty (v .from))
-    ∷ row "put entry N N" (PutEntry (v .two) (v .three))
-    ∷ row "check" Check
-    ∷ row "rows N F" (Rows (v .one) (v .line) (v .stuck))
-    ∷ row "judge N F" (Judge (v .one) (v .line) (v .stuck))
-    ∷ row "find F" (Find (v .line) (v .stuck))
-    ∷ row "book" Book
-    ∷ row "alter N H" (Alter (v .one) (v .from))
-    ∷ row "refresh N N" (Refresh (v .one) (v .two))
-    ∷ row "five N N F" (Five (v .one) (v .two) (v .line) (v .stuck))
-    ∷ row "show good N" (ShowGood (v .two))
-    ∷ row "show faulty N" (ShowFaulty (v .two))
-    ∷ row "entries" Entries
+    row "load H" (Anew (Load (v .from)))
+    ∷ row "open P" (Anew (Open (v .from)))
+    ∷ row "save P" (OnImage (Save (v .from)))
+    ∷ row "image" (OnImage Image)
+    ∷ row "check" (OnImage Check)
+    ∷ row "judge N F" (OnImage (Judge (v .one) (v .fault)))
+    ∷ row "find F" (OnImage (Find (v .fault)))
+    ∷ row "lend rows N N" (OnRows (LendRows (v .two) (v .three)))
+    ∷ row "put good H" (OnRows (PutGood (v .from)))
+    ∷ row "put faulty H" (OnRows (PutFaulty (v .from)))
+    ∷ row "rows N F" (OnRows (Rows (v .one) (v .fault)))
+    ∷ row "refresh N N" (OnRows (Refresh (v .one) (v .two)))
+    ∷ row "five N N F" (OnRows (Five (v .one) (v .two) (v .fault)))
+    ∷ row "show good N" (OnRows (ShowGood (v .two)))
+    ∷ row "show faulty N" (OnRows (ShowFaulty (v .two)))
+    ∷ row "lend book N" (OnBook (LendBook (v .two)))
+    ∷ row "put entry N N" (OnBook (Put (v .two) (v .three)))
+    ∷ row "book" (OnBook Book)
+    ∷ row "alter N H" (OnBook (Alter (v .one) (v .from)))
+    ∷ row "entries" (OnBook Entries)
     ∷ row "help" Help
     ∷ []
 
--- the numbers of a line's words 1, 2 and 3 (word 0 is the first); of its last word, the numbers around its slash, and where it begins
+-- the numbers of a line's words 1, 2 and 3 (word 0 is the first); the fault that its last word names, and where that word begins
 abbrev pub valuesOf : List ℕ → Values
 valuesOf s = record {
   one = numberAt (words s) 1;
   two = numberAt (words s) 2;
   three = numberAt (words s) 3;
-  line = numberAt (sides (last (words s))) 0;
-  stuck = numberAt (sides (last (words s))) 1;
+  fault = faultOf (last (words s)) .fault;
   from = length s - length (last (words s));
 }
 
@@ -80,48 +83,8 @@ asked rows (None why) = Unread why
 
 -- the first row whose name a line has, or why there is none or the line does not have its form
 abbrev pub formOf : List ℕ → Form
-formOf s = firstForm 0 (map itsForm (table (valuesOf s))) (words s)
+formOf s = cond (eqb (length s) 0) (None Empty) (firstForm 0 (map itsForm (table (valuesOf s))) (words s))
 
--- what a line asks for: by the first row whose name it has
-unfoldable pub commandOf : List ℕ → Command
-commandOf [] = Unread Empty
-commandOf (x ∷ xs) = asked (table (valuesOf (x ∷ xs))) (formOf (x ∷ xs))
-
--- the last word begins at a place; and is HEX
-pub record WordAt (s : List ℕ) (from : ℕ) : Type 0 where
-  pub room : from ≤ length s
-  pub is : drop from s ≡ last (words s)
-
-pub record HexAt (s : List ℕ) (from : ℕ) : Type 0 where
-  pub word : WordAt s from
-  pub hex : isHex (drop from s) ≡ true
-
--- what is known of a command's last word
-abbrev pub LastWord : List ℕ → Command → Type 0
-LastWord s (Load from) = HexAt s from
-LastWord s (Open from) = WordAt s from
-LastWord s (Save from) = WordAt s from
-LastWord s Image = Unit {0}
-LastWord s (LendRows good faulty) = Unit {0}
-LastWord s (LendBook numbers) = Unit {0}
-LastWord s (PutGood from) = HexAt s from
-LastWord s (PutFaulty from) = HexAt s from
-LastWord s (PutEntry place number) = Unit {0}
-LastWord s Check = Unit {0}
-LastWord s (Rows pattern line stuck) = Unit {0}
-LastWord s (Judge pattern line stuck) = Unit {0}
-LastWord s (Find line stuck) = Unit {0}
-LastWord s Book = Unit {0}
-LastWord s (Alter line from) = HexAt s from
-LastWord s (Refresh line pattern) = Unit {0}
-LastWord s (Five named values line stuck) = Unit {0}
-LastWord s (ShowGood start) = Unit {0}
-LastWord s (ShowFaulty start) = Unit {0}
-LastWord s Entries = Unit {0}
-LastWord s Help = Unit {0}
-LastWord s (Unread why) = Unit {0}
-
--- what is owed for a line: the one command, and what is known of its last word
-pub record ReadOwes (s : List ℕ) (r : Command) : Type 0 where
-  pub is : r ≡ commandOf s
-  pub word : LastWord s r
+-- what a line asks for
+abbrev pub commandOf : List ℕ → Command
+commandOf s = asked (table (valuesOf s)) (formOf s)

@@ -1,24 +1,21 @@
 -- HEX: two digits a byte, lower or upper case; `-` is no bytes.
-use mathlib.Core.Bool.{Bool, cond, _&&_, _||_}
+use mathlib.Core.Bool.{Bool, _&&_, _||_}
 use mathlib.Core.List.{List}
-use Prim.Native.Nat.{ℕ, _+_, _*_, _-_, _/_, _%_}
-use lib.Dec.{eqb, leb}
+use Prim.Native.Nat.{ℕ, _+_, _*_, _/_, _%_}
+use lib.Dec.{eqb}
 use lib.ListN.{length, getD}
 use Rattle.board.specs.Lists.{build, text, same}
 use Rattle.words.specs.Number.{isAll}
 use Rattle.words.specs.declared.sorts.Sort.the-variants.{Hex}
 
 -- a word that is HEX
-unfoldable pub isHex : List ℕ → Bool
+abbrev pub isHex : List ℕ → Bool
 isHex w = same w (text "-") || (eqb (length w % 2) 0 && isAll Hex w)
 
--- the value of a digit: 0 to 9, A to F, a to f
+-- the value of a digit: its four low bits, and 9 more for a letter (A is byte 65, a 97); of any other byte, some number below 16
 abbrev pub hexDigit : ℕ → ℕ
-hexDigit x = cond (leb x 57) (x - 48) (cond (leb x 70) (x - 55) (x - 87))
+hexDigit x = (x % 16 + 9 * (x / 64)) % 16
 
--- the byte at a place, and all the bytes, of a word
-abbrev pub hexByte : List ℕ → ℕ → ℕ
-hexByte w i = 16 * hexDigit (getD w (2 * i) 0) + hexDigit (getD w (2 * i + 1) 0)
-
+-- the bytes that a word stands for, two digits each
 abbrev pub hexBytes : List ℕ → List ℕ
-hexBytes w = build (λ i before. hexByte w i) (length w / 2)
+hexBytes w = build (λ i before. 16 * hexDigit (getD w (2 * i) 0) + hexDigit (getD w (2 * i + 1) 0)) (length w / 2)

@@ -1,15 +1,13 @@
--- Numbers and faults.
-use mathlib.Core.Bool.{Bool, true, false, _&&_, _||_, not}
+-- Numbers: decimal digits that fit 64 bits.
+use mathlib.Core.Bool.{Bool, true, false, cond, _&&_, _||_, not}
 use mathlib.Core.List.{List, [], _∷_}
-use mathlib.Core.Option.{Option, none, some, Option·getD}
 use Prim.Native.Nat.{ℕ, _+_, _*_, _-_, _^_}
 use lib.Dec.{eqb, leb, ltb}
 use lib.ListN.{length}
-use Rattle.words.specs.Parts.{sides, part}
+use Rattle.words.specs.Parts.{part}
 use Rattle.words.specs.declared.sorts.Sort.{Sort}
 use Rattle.words.specs.declared.sorts.Sort.the-variants.{Digit, Hex, Path}
 use Rattle.words.specs.declared.number.Number.{Number}
-use Rattle.words.specs.declared.number.Number.the-variants.{Value, Unread}
 
 -- the decimal digits; those of HEX; and the bytes of each sort, a path's being all but the tab and the carriage return
 abbrev pub isDigit : ℕ → Bool
@@ -40,33 +38,13 @@ valueFrom v (x ∷ xs) = valueFrom (10 * v + (x - 48)) xs
 abbrev pub valueOf : List ℕ → ℕ
 valueOf w = valueFrom 0 w
 
--- one or more decimal digits, and it fits 64 bits
-unfoldable pub isNumber : List ℕ → Bool
-isNumber w = isAll Digit w && ltb (valueOf w) (2 ^ 64)
+-- what a word is read as that is no number; and any word: a number is one or more decimal digits whose value fits 64 bits
+abbrev pub noNumber : Number
+noNumber = record { is = false; value = 0 }
 
--- the number of a word, or none
-abbrev pub given : Bool → ℕ → Option ℕ
-given true n = some n
-given false n = none
-
-abbrev pub numberOf : List ℕ → Option ℕ
-numberOf w = given (isNumber w) (valueOf w)
-
--- what was read, in the same words
-abbrev pub said : Number → Option ℕ
-said (Value n) = some n
-said Unread = none
+unfoldable pub numberOf : List ℕ → Number
+numberOf w = cond (isAll Digit w && ltb (valueOf w) (2 ^ 64)) (record { is = true; value = valueOf w }) noNumber
 
 -- the number of the part at a place, 0 where it is none
 abbrev pub numberAt : List (List ℕ) → ℕ → ℕ
-numberAt ps i = Option·getD (numberOf (part ps i)) 0
-
--- LINE/STUCK: two numbers around one slash
-abbrev pub areNumbers : List (List ℕ) → Bool
-areNumbers [] = false
-areNumbers (p ∷ []) = false
-areNumbers (p ∷ q ∷ []) = isNumber p && isNumber q
-areNumbers (p ∷ q ∷ r ∷ ps) = false
-
-abbrev pub isFault : List ℕ → Bool
-isFault w = areNumbers (sides w)
+numberAt ps i = numberOf (part ps i) .value

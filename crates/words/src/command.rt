@@ -1,11 +1,15 @@
 // What a command line asks for.
+use crate::fault::fault_of;
 use crate::forms::Form;
 use crate::forms::form_of;
 use crate::number::number_at;
 use crate::parts::last_start;
+use crate::parts::next_start;
+use image::numbers::tail;
+use board::Fault;
 ghost use mathlib.Core.Path.{_≡_};
 ghost use Prim.Native.Nat.{_≤_};
-ghost use Rattle.words.specs.Command.{table, valuesOf, asksAt, WordAt, ReadOwes};
+ghost use Rattle.words.specs.Command.{table, valuesOf, asksAt, commandOf};
 
 // Why a line can't be read: it is empty, is no command, has too few or too many words, or a word is not what the command asks for there.
 pub enum Why {
@@ -18,24 +22,26 @@ pub enum Why {
     Path,
 }
 
-// `from` is where the line's last word begins.
-pub enum Command {
-    Load {
-        from: usize,
-    },
-    Open {
-        from: usize,
-    },
-    Save {
-        from: usize,
-    },
+// The commands, by what they use; `from` is where the line's last word begins. First those that bring a new image.
+pub enum Anew {
+    Load { from: usize },
+    Open { from: usize },
+}
+
+// Those that use the image alone.
+pub enum OnImage {
+    Save { from: usize },
     Image,
-    LendRows {
+    Check,
+    Judge { pattern: u64, fault: Fault },
+    Find { fault: Fault },
+}
+
+// Those that use the rows.
+pub enum OnRows {
+    Lend {
         good: u64,
         faulty: u64,
-    },
-    LendBook {
-        numbers: u64,
     },
     PutGood {
         from: usize,
@@ -43,29 +49,9 @@ pub enum Command {
     PutFaulty {
         from: usize,
     },
-    PutEntry {
-        place: u64,
-        number: u64,
-    },
-    Check,
     Rows {
         pattern: u64,
-        line: u64,
-        stuck: u64,
-    },
-    Judge {
-        pattern: u64,
-        line: u64,
-        stuck: u64,
-    },
-    Find {
-        line: u64,
-        stuck: u64,
-    },
-    Book,
-    Alter {
-        line: u64,
-        from: usize,
+        fault: Fault,
     },
     Refresh {
         line: u64,
@@ -74,8 +60,7 @@ pub enum Command {
     Five {
         named: u64,
         values: u64,
-        line: u64,
-        stuck: u64,
+        fault: Fault,
     },
     ShowGood {
         start: u64,
@@ -83,109 +68,123 @@ pub enum Command {
     ShowFaulty {
         start: u64,
     },
+}
+
+// Those that use the book.
+pub enum OnBook {
+    Lend { numbers: u64 },
+    Put { place: u64, number: u64 },
+    Book,
+    Alter { line: u64, from: usize },
     Entries,
+}
+
+// What a line asks for, or why it can't be read.
+pub enum Command {
+    Anew(Anew),
+    OnImage(OnImage),
+    OnRows(OnRows),
+    OnBook(OnBook),
     Help,
     Unread(Why),
 }
 
-// What a line's words stand for, each as a number and the last as a fault too; and where the last begins.
+// What a line's words stand for: words 1, 2 and 3 as numbers, the last as a fault, and where the last begins.
 pub struct Values {
     pub one: u64,
     pub two: u64,
     pub three: u64,
-    pub line: u64,
-    pub stuck: u64,
+    pub fault: Fault,
     pub from: usize,
 }
 
 // Gives what a line's words stand for.
 fn values_of(line: &[u8]) -> Values
-    ensures { λ r. ⌜ (r ≡ valuesOf (now (line .entry))) × WordAt (now (line .entry)) (r .from) ⌝ }
+    ensures { λ r. ⌜ r ≡ valuesOf (now (line .entry)) ⌝ }
 {
+    let first = next_start(line, b' ', 0);
+    let second = next_start(line, b' ', first);
+    let third = next_start(line, b' ', second);
     let from = last_start(line, b' ');
+    let fault = fault_of(tail(line, from)).fault;
     Values {
-        one: number_at(line, b' ', 1),
-        two: number_at(line, b' ', 2),
-        three: number_at(line, b' ', 3),
-        line: number_at(&line[from..], b'/', 0),
-        stuck: number_at(&line[from..], b'/', 1),
+        one: number_at(line, b' ', first),
+        two: number_at(line, b' ', second),
+        three: number_at(line, b' ', third),
+        fault,
         from,
     }
 }
 
-// Gives what the form at a place asks for: the forms up to `put entry`.
+// Gives what the form at a place asks for: a new image, or a command on the image alone.
 fn asked(form: usize, v: Values) -> Command
     ensures { λ r. ⌜ r ≡ asksAt (table v) form ⌝ }
 {
+    let fault = v.fault;
     match form {
-        0 => Command::Load { from: v.from },
-        1 => Command::Open { from: v.from },
-        2 => Command::Save { from: v.from },
-        3 => Command::Image,
-        4 => Command::LendRows {
+        0 => Command::Anew(Anew::Load { from: v.from }),
+        1 => Command::Anew(Anew::Open { from: v.from }),
+        2 => Command::OnImage(OnImage::Save { from: v.from }),
+        3 => Command::OnImage(OnImage::Image),
+        4 => Command::OnImage(OnImage::Check),
+        5 => Command::OnImage(OnImage::Judge {
+            pattern: v.one,
+            fault,
+        }),
+        6 => Command::OnImage(OnImage::Find { fault }),
+        _ => asked_on_rows(form, v),
+    }
+}
+
+// The same for the commands on the rows.
+fn asked_on_rows(form: usize, v: Values) -> Command
+    requires { ⌜ 7 ≤ form ⌝ }
+    ensures { λ r. ⌜ r ≡ asksAt (table v) form ⌝ }
+{
+    let fault = v.fault;
+    match form {
+        7 => Command::OnRows(OnRows::Lend {
             good: v.two,
             faulty: v.three,
-        },
-        5 => Command::LendBook { numbers: v.two },
-        6 => Command::PutGood { from: v.from },
-        7 => Command::PutFaulty { from: v.from },
-        8 => Command::PutEntry {
-            place: v.two,
-            number: v.three,
-        },
-        _ => called(form, v),
-    }
-}
-
-// The same from `check` up to `five`.
-fn called(form: usize, v: Values) -> Command
-    requires { ⌜ 9 ≤ form ⌝ }
-    ensures { λ r. ⌜ r ≡ asksAt (table v) form ⌝ }
-{
-    match form {
-        9 => Command::Check,
-        10 => Command::Rows {
+        }),
+        8 => Command::OnRows(OnRows::PutGood { from: v.from }),
+        9 => Command::OnRows(OnRows::PutFaulty { from: v.from }),
+        10 => Command::OnRows(OnRows::Rows {
             pattern: v.one,
-            line: v.line,
-            stuck: v.stuck,
-        },
-        11 => Command::Judge {
-            pattern: v.one,
-            line: v.line,
-            stuck: v.stuck,
-        },
-        12 => Command::Find {
-            line: v.line,
-            stuck: v.stuck,
-        },
-        13 => Command::Book,
-        14 => Command::Alter {
-            line: v.one,
-            from: v.from,
-        },
-        15 => Command::Refresh {
+            fault,
+        }),
+        11 => Command::OnRows(OnRows::Refresh {
             line: v.one,
             pattern: v.two,
-        },
-        16 => Command::Five {
+        }),
+        12 => Command::OnRows(OnRows::Five {
             named: v.one,
             values: v.two,
-            line: v.line,
-            stuck: v.stuck,
-        },
-        _ => shown(form, v),
+            fault,
+        }),
+        13 => Command::OnRows(OnRows::ShowGood { start: v.two }),
+        14 => Command::OnRows(OnRows::ShowFaulty { start: v.two }),
+        _ => asked_on_book(form, v),
     }
 }
 
-// The same from `show good` on.
-fn shown(form: usize, v: Values) -> Command
-    requires { ⌜ 17 ≤ form ⌝ }
+// The same for the commands on the book, and for `help`.
+fn asked_on_book(form: usize, v: Values) -> Command
+    requires { ⌜ 15 ≤ form ⌝ }
     ensures { λ r. ⌜ r ≡ asksAt (table v) form ⌝ }
 {
     match form {
-        17 => Command::ShowGood { start: v.two },
-        18 => Command::ShowFaulty { start: v.two },
-        19 => Command::Entries,
+        15 => Command::OnBook(OnBook::Lend { numbers: v.two }),
+        16 => Command::OnBook(OnBook::Put {
+            place: v.two,
+            number: v.three,
+        }),
+        17 => Command::OnBook(OnBook::Book),
+        18 => Command::OnBook(OnBook::Alter {
+            line: v.one,
+            from: v.from,
+        }),
+        19 => Command::OnBook(OnBook::Entries),
         20 => Command::Help,
         _ => Command::Unread(Why::Unknown),
     }
@@ -193,11 +192,8 @@ fn shown(form: usize, v: Values) -> Command
 
 // Gives what a line, without its line feed, asks for.
 pub fn read(line: &[u8]) -> Command
-    ensures { λ r. ⌜ ReadOwes (now (line .entry)) r ⌝ }
+    ensures { λ r. ⌜ r ≡ commandOf (now (line .entry)) ⌝ }
 {
-    if line.len() == 0 {
-        return Command::Unread(Why::Empty);
-    }
     match form_of(line) {
         Form::None(why) => Command::Unread(why),
         Form::At(k) => asked(k, values_of(line)),

@@ -1,15 +1,17 @@
 // The forms of the commands, and which of them a line has.
 use crate::command::Why;
-use crate::fault::is_fault;
+use crate::fault::fault_of;
 use crate::hex::is_hex;
-use crate::number::is_number;
+use crate::number::number_of;
 use crate::parts::is_same;
-use crate::parts::part_end;
+use crate::parts::next_start;
+use crate::parts::part_at;
 use crate::sorts::Sort;
 use crate::sorts::is_all;
 ghost use mathlib.Core.Path.{_≡_};
+ghost use mathlib.Core.Bool.{cond};
 ghost use Rattle.words.specs.Parts.{parts, words};
-ghost use Rattle.words.specs.Forms.{fitIf, wordFit, lackFit, formFit, firstForm};
+ghost use Rattle.words.specs.Forms.{letterOf, wordFit, isFit, formFit, firstForm};
 ghost use Rattle.words.specs.Command.{formOf};
 
 // How a line suits a form: it has the form, has another name, or has the name and can't be read.
@@ -25,44 +27,41 @@ pub enum Form {
     None(Why),
 }
 
-// Fits where the test passes, else wrong for that reason.
-fn fit_if(good: bool, why: Why) -> Fit
-    ensures { λ r. ⌜ r ≡ fitIf good why ⌝ }
+// The one where the test passes, else the other.
+fn either(test: bool, yes: Fit, no: Fit) -> Fit
+    ensures { λ r. ⌜ r ≡ cond test yes no ⌝ }
 {
-    if good { Fit::Fits } else { Fit::Wrong(why) }
+    if test { yes } else { no }
+}
+
+// The letter of a word of one letter, 0 for any other word.
+fn letter(word: &[u8]) -> u8
+    ensures { λ r. ⌜ r ≡ letterOf (now (word .entry)) ⌝ }
+{
+    if word.len() == 1 { word[0] } else { 0 }
 }
 
 // How a word suits a word of a form: N a number, F a fault, H HEX, P a path, any other itself.
 fn word_fit(asked: &[u8], word: &[u8]) -> Fit
     ensures { λ r. ⌜ r ≡ wordFit (now (asked .entry)) (now (word .entry)) ⌝ }
 {
-    if is_same(asked, b"N") {
-        return fit_if(is_number(word), Why::Number);
-    }
-    if is_same(asked, b"F") {
-        return fit_if(is_fault(word), Why::Fault);
-    }
-    if is_same(asked, b"H") {
-        return fit_if(is_hex(word), Why::Hex);
-    }
-    if is_same(asked, b"P") {
-        return fit_if(is_all(Sort::Path, word), Why::Path);
-    }
-    if is_same(asked, word) {
-        Fit::Fits
-    } else {
-        Fit::Other
+    match letter(asked) {
+        b'N' => either(number_of(word).is, Fit::Fits, Fit::Wrong(Why::Number)),
+        b'F' => either(fault_of(word).is, Fit::Fits, Fit::Wrong(Why::Fault)),
+        b'H' => either(is_hex(word), Fit::Fits, Fit::Wrong(Why::Hex)),
+        b'P' => either(is_all(Sort::Path, word), Fit::Fits, Fit::Wrong(Why::Path)),
+        _ => either(is_same(asked, word), Fit::Fits, Fit::Other),
     }
 }
 
-// How a line that has no word left suits a word of a form: too few words, or another name.
-fn lack_fit(asked: &[u8]) -> Fit
-    ensures { λ r. ⌜ r ≡ lackFit (now (asked .entry)) ⌝ }
+// It fits.
+fn is_fit(fit: Fit) -> bool
+    ensures { λ r. ⌜ r ≡ isFit fit ⌝ }
 {
-    if asked.len() == 1 {
-        Fit::Wrong(Why::Words)
-    } else {
-        Fit::Other
+    match fit {
+        Fit::Fits => true,
+        Fit::Other => false,
+        Fit::Wrong(_) => false,
     }
 }
 
@@ -73,20 +72,18 @@ fn form_fit(form: &[u8], line: &[u8]) -> Fit
     let mut f = 0;
     let mut at = 0;
     while f <= form.len() {
-        let asked_end = part_end(form, b' ', f);
+        let asked = part_at(form, b' ', f);
         if line.len() < at {
-            return lack_fit(&form[f..asked_end]);
+            return either(asked.len() == 1, Fit::Wrong(Why::Words), Fit::Other);
         }
-        let end = part_end(line, b' ', at);
-        match word_fit(&form[f..asked_end], &line[at..end]) {
-            Fit::Fits => {}
-            Fit::Other => return Fit::Other,
-            Fit::Wrong(why) => return Fit::Wrong(why),
+        let fit = word_fit(asked, part_at(line, b' ', at));
+        if !is_fit(fit) {
+            return fit;
         }
-        f = asked_end + 1;
-        at = end + 1;
+        f = next_start(form, b' ', f);
+        at = next_start(line, b' ', at);
     }
-    fit_if(line.len() < at, Why::Words)
+    either(line.len() < at, Fit::Fits, Fit::Wrong(Why::Words))
 }
 
 // The first of some forms, one a row, whose name a line has.
@@ -96,24 +93,26 @@ fn first_form(forms: &[u8], line: &[u8]) -> Form
     let mut k = 0;
     let mut at = 0;
     while at <= forms.len() {
-        let end = part_end(forms, b'\n', at);
-        match form_fit(&forms[at..end], line) {
+        match form_fit(part_at(forms, b'\n', at), line) {
             Fit::Fits => return Form::At(k),
             Fit::Other => {}
             Fit::Wrong(why) => return Form::None(why),
         }
-        at = end + 1;
+        at = next_start(forms, b'\n', at);
         k += 1;
     }
     Form::None(Why::Unknown)
 }
 
-// The form of a line: the forms of the commands, in the order of the console's page.
+// The form of a line, by the forms of the commands in the order of the table.
 pub fn form_of(line: &[u8]) -> Form
     ensures { λ r. ⌜ r ≡ formOf (now (line .entry)) ⌝ }
 {
+    if line.len() == 0 {
+        return Form::None(Why::Empty);
+    }
     first_form(
-        b"load H\nopen P\nsave P\nimage\nlend rows N N\nlend book N\nput good H\nput faulty H\nput entry N N\ncheck\nrows N F\njudge N F\nfind F\nbook\nalter N H\nrefresh N N\nfive N N F\nshow good N\nshow faulty N\nentries\nhelp",
+        b"load H\nopen P\nsave P\nimage\ncheck\njudge N F\nfind F\nlend rows N N\nput good H\nput faulty H\nrows N F\nrefresh N N\nfive N N F\nshow good N\nshow faulty N\nlend book N\nput entry N N\nbook\nalter N H\nentries\nhelp",
         line,
     )
 }

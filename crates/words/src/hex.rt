@@ -1,14 +1,13 @@
 // HEX: two digits a byte, lower or upper case; `-` is no bytes.
+use crate::parts::fewer;
 use crate::parts::is_same;
 use crate::sorts::Sort;
 use crate::sorts::is_all;
 ghost use mathlib.Core.Path.{_≡_};
-ghost use mathlib.Core.Bool.{true};
 ghost use mathlib.Core.List.{_++_};
-ghost use Prim.Native.Nat.{_/_, _<_, _≤_};
-ghost use lib.ListN.{length, drop};
-ghost use Rattle.words.specs.Number.{isHexDigit};
-ghost use Rattle.words.specs.Hex.{isHex, hexDigit, hexByte, hexBytes};
+ghost use Prim.Native.Nat.{_+_, _*_, _/_, _<_, min};
+ghost use lib.ListN.{length, take, drop};
+ghost use Rattle.words.specs.Hex.{isHex, hexDigit, hexBytes};
 
 // The word is HEX.
 pub fn is_hex(word: &[u8]) -> bool
@@ -24,37 +23,29 @@ pub fn bytes_of(word: &[u8]) -> usize
     word.len() / 2
 }
 
-// The value of a HEX digit.
+// The value of a digit.
 fn digit(x: u8) -> u8
-    requires { ⌜ isHexDigit x ≡ true ⌝ }
     ensures { λ r. ⌜ (r ≡ hexDigit x) × (r < 16) ⌝ }
 {
-    if x <= 57 {
-        return x - 48;
-    }
-    if x <= 70 { x - 55 } else { x - 87 }
+    (x % 16 + 9 * (x / 64)) % 16
 }
 
-// The byte at a place of those that a HEX word stands for.
-fn byte_at(word: &[u8], i: usize) -> u8
-    requires { ⌜ (isHex (now word) ≡ true) × (i < length (now word) / 2) ⌝ }
-    ensures { λ r. ⌜ r ≡ hexByte (now (word .entry)) i ⌝ }
+// The byte of two digits.
+fn byte_of(high: u8, low: u8) -> u8
+    ensures { λ r. ⌜ r ≡ 16 * hexDigit high + hexDigit low ⌝ }
 {
-    let at = 2 * i;
-    let high = digit(word[at]);
-    let low = digit(word[at + 1]);
-    16 * high + low
+    16 * digit(high) + digit(low)
 }
 
-// The bytes that a HEX word stands for, put at the front of a buffer; gives how many.
+// Puts the bytes that a word stands for at the front of a buffer, as many as it has room for, and gives how many.
 pub fn unpack(word: &[u8], out: &mut [u8]) -> usize
-    requires { ⌜ (isHex (now word) ≡ true) × (length (now word) / 2 ≤ length (now out)) ⌝ }
-    ensures { λ r. ⌜ (r ≡ length (now (word .entry)) / 2) × (now (out .exit) ≡ hexBytes (now (word .entry)) ++ drop r (now (out .entry))) ⌝ }
+    ensures { λ r. ⌜ (r ≡ min (length (now (word .entry)) / 2) (length (now (out .entry)))) × (now (out .exit) ≡ take r (hexBytes (now (word .entry))) ++ drop r (now (out .entry))) ⌝ }
 {
-    let n = bytes_of(word);
+    let n = fewer(word.len() / 2, out.len());
     let mut i = 0;
     while i < n {
-        out[i] = byte_at(word, i);
+        let at = 2 * i;
+        out[i] = byte_of(word[at], word[at + 1]);
         i += 1;
     }
     n

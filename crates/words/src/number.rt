@@ -1,18 +1,23 @@
 // Numbers: decimal digits that fit 64 bits.
-use crate::parts::part_end;
+use crate::parts::part_at;
 use crate::sorts::Sort;
 use crate::sorts::is_all;
 ghost use mathlib.Core.Path.{_≡_};
-ghost use mathlib.Core.Option.{Option·getD};
 ghost use Prim.Native.Nat.{_-_, _<_};
-ghost use Rattle.words.specs.Parts.{parts};
-ghost use Rattle.words.specs.Number.{isNumber, numberOf, said, numberAt};
+ghost use Rattle.words.specs.Number.{numberOf, numberAt};
+ghost use Rattle.words.specs.Inner.{partsFrom};
 
-// What a word is read as.
-pub enum Number {
-    Value(u64),
-    Unread,
+// What a word is read as: whether it is a number, and which, 0 where it is none.
+pub struct Number {
+    pub is: bool,
+    pub value: u64,
 }
+
+// What a word that is no number is read as.
+const NO_NUMBER: Number = Number {
+    is: false,
+    value: 0,
+};
 
 // The largest number of 64 bits.
 const MOST: u64 = 18_446_744_073_709_551_615;
@@ -24,59 +29,29 @@ fn digit(x: u8) -> u64
     if 48 <= x { (x - 48) as u64 } else { 0 }
 }
 
-// Reads a word.
-pub fn read(word: &[u8]) -> Number
-    ensures { λ r. ⌜ said r ≡ numberOf (now (word .entry)) ⌝ }
+// The number that a word is read as.
+pub fn number_of(word: &[u8]) -> Number
+    ensures { λ r. ⌜ r ≡ numberOf (now (word .entry)) ⌝ }
 {
     if !is_all(Sort::Digit, word) {
-        return Number::Unread;
+        return NO_NUMBER;
     }
     let mut value: u64 = 0;
     let mut i = 0;
     while i < word.len() {
         let next = digit(word[i]);
         if (MOST - next) / 10 < value {
-            return Number::Unread;
+            return NO_NUMBER;
         }
         value = 10 * value + next;
         i += 1;
     }
-    Number::Value(value)
+    Number { is: true, value }
 }
 
-// The word is a number.
-pub fn is_number(word: &[u8]) -> bool
-    ensures { λ r. ⌜ r ≡ isNumber (now (word .entry)) ⌝ }
+// The number of the part that begins at a place, 0 where it is none.
+pub fn number_at(s: &[u8], mark: u8, at: usize) -> u64
+    ensures { λ r. ⌜ r ≡ numberAt (partsFrom mark at (now (s .entry))) 0 ⌝ }
 {
-    match read(word) {
-        Number::Value(_) => true,
-        Number::Unread => false,
-    }
-}
-
-// The number of a word, 0 where it is none.
-fn value(word: &[u8]) -> u64
-    ensures { λ r. ⌜ r ≡ Option·getD (numberOf (now (word .entry))) 0 ⌝ }
-{
-    match read(word) {
-        Number::Value(n) => n,
-        Number::Unread => 0,
-    }
-}
-
-// The number of the part at a place, counted from 0.
-pub fn number_at(s: &[u8], mark: u8, place: usize) -> u64
-    ensures { λ r. ⌜ r ≡ numberAt (parts mark (now (s .entry))) place ⌝ }
-{
-    let mut at = 0;
-    let mut left = place;
-    while at <= s.len() {
-        let end = part_end(s, mark, at);
-        if left == 0 {
-            return value(&s[at..end]);
-        }
-        at = end + 1;
-        left -= 1;
-    }
-    0
+    number_of(part_at(s, mark, at)).value
 }

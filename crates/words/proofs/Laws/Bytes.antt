@@ -1,24 +1,17 @@
 -- Tests of each byte of a word, from the front: what is left to test.
 use mathlib.Core.Path.{_≡_, refl, sym, ap, _∙_}
-use mathlib.Core.Bool.{Bool, true, false, _&&_, false≢true}
-use mathlib.Core.Logic.{⊎-elim}
+use mathlib.Core.Bool.{Bool, true, false, _&&_}
 use mathlib.Core.List.{List, [], _∷_}
-use Prim.Native.Nat.{ℕ, zero, suc, _+_, _<_}
-use native.Mathlib.Nat.{not-suc-le-zero, le-of-suc-le-suc}
+use Prim.Native.Nat.{ℕ, suc, _+_, _<_}
 use native.Mathlib.Numerals.{add-one}
 use native.Mathlib.Omega.{arith}
 use lib.Dec.{eqb, ltb}
 use lib.ListN.{length, getD, drop}
 use lib.Seq.{drop-cons, drop-length}
-use borrow.Author.Tests.{eq-eqb, ne-eqb, eqb-true, eqb-false}
-use Rattle.board.proofs.Lists.{way, clash}
+use borrow.Author.Tests.{eq-eqb, ne-eqb}
 use Rattle.board.specs.Lists.{same}
 use Rattle.words.specs.Number.{isOf, every, isAll}
 use Rattle.words.specs.declared.sorts.Sort.{Sort}
-
-pub and-true : (a b : Bool) → (a && b) ≡ true → (a ≡ true) × (b ≡ true)
-and-true true b e = (refl, e)
-and-true false b e = absurd (false≢true e)
 
 and-false : (t : Bool) → (t && false) ≡ false
 and-false true = refl
@@ -31,13 +24,6 @@ same-lengths [] [] other = absurd (other refl)
 same-lengths [] (y ∷ ys) other = refl
 same-lengths (x ∷ xs) [] other = refl
 same-lengths (x ∷ xs) (y ∷ ys) other = rw (same-lengths xs ys (λ e. other (ap suc e))) (and-false (eqb x y))
-
-pub same-length : (a b : List ℕ) → same a b ≡ true → length a ≡ length b
-same-length a b e =
-    ⊎-elim
-    (λ h. eqb-true (length a) (length b) h)
-    (λ h. clash (same a b) e (same-lengths a b (eqb-false (length a) (length b) h)))
-    (way (eqb (length a) (length b)))
 
 module _ (a b : List ℕ) (lengths : length a ≡ length b) (i : ℕ) (room : i < length a) where
   same-at : same (drop i a) (drop i b) ≡ (eqb (getD a i 0) (getD b i 0) && same (drop (i + 1) a) (drop (i + 1) b))
@@ -71,12 +57,6 @@ module _ (t : ℕ → Bool) (w : List ℕ) (i : ℕ) (before : every t w ≡ eve
   pub every-end : i ≡ length w → every t w ≡ true
   unfolding every
   every-end h = before ∙ rw (h, drop-length)
-
-pub every-at : (t : ℕ → Bool) (w : List ℕ) (i : ℕ) → every t w ≡ true → i < length w → t (getD w i 0) ≡ true
-unfolding every
-every-at t [] i all room = absurd (not-suc-le-zero room)
-every-at t (x ∷ xs) zero all room = and-true (t x) (every t xs) all .0
-every-at t (x ∷ xs) (suc i) all room = every-at t xs i (and-true (t x) (every t xs) all .1) (le-of-suc-le-suc room)
 
 -- one byte or more, each of a sort
 pub all-not : (sort : Sort) (w : List ℕ) → every (isOf sort) w ≡ false → false ≡ isAll sort w

@@ -1,12 +1,7 @@
--- `words::command::read` meets its contract: the row that the line has, at the line's values.
-use mathlib.Core.Path.{sym, _∙_}
-use Rattle.words.proofs.Laws.Command.{read-empty, read-none, read-row}
+-- `words::command::read` meets its contract, by the form that the line has.
 use borrow.Author.Needs.{needs}
 use Rattle.words.proofs.command.read.Statement.{statement}
 use Rattle.words.proofs.command.read.Tie as tie
-
-returns : tie.Need-returns
-returns c = read-empty (c .before .before .args .line .now) (c .if1 .taken)
 
 form-of-requires : tie.Need-form-of-requires
 form-of-requires c κs = search needs
@@ -23,28 +18,25 @@ values-of-requires c κs = search needs
 asked-requires : tie.Need-asked-requires
 asked-requires c κs = search needs
 
+returns : tie.Need-returns
+returns c =
+    let form = c .before .before .before in
+    rw (← (form .form-of .ensures), c .before .why .given .1)
+
 returns-2 : tie.Need-returns-2
 returns-2 c =
-    let form = c .before .before .before in
-    read-none (form .before .before .before .args .line .now) _ (form .before .if1 .left) (sym (c .before .why .given .1) ∙ form .form-of .ensures)
-
-returns-3 : tie.Need-returns-3
-returns-3 c =
-    let values = c .before in
-    let place = values .before .before in
-    let form = place .before .before in
-    read-row (form .before .before .before .args .line .now) (values .values-of .result) _ (c .asked .result) (form .before .if1 .left)
-    (values .values-of .ensures .0) (values .values-of .ensures .1) (sym (place .k .given .1) ∙ form .form-of .ensures) (c .asked .ensures)
+    let k = c .before .before .before in
+    let form = k .before .before in
+    rw (c .asked .ensures, c .before .values-of .ensures, ← (form .form-of .ensures), k .k .given .1)
 
 pub read-spec : {M : Type 1} → statement M
 read-spec =
     tie.close
     (tie.spec
-    returns
     form-of-requires
     enum-known-why
     enum-known-k
     values-of-requires
     asked-requires
-    returns-2
-    returns-3)
+    returns
+    returns-2)

@@ -1,15 +1,28 @@
--- `words::command::values_of` meets its contract: the rest of the line from where the last word begins is that word.
-use mathlib.Core.Path.{ap, _∙_}
-use Rattle.words.specs.Parts.{parts}
-use Rattle.words.specs.Number.{numberAt}
-use Rattle.words.specs.Command.{WordAt}
-use Rattle.words.proofs.Laws.Command.{word-from, word-rest}
+-- `words::command::values_of` meets its contract: the numbers of the words, one behind the other, and the last word.
+use mathlib.Core.Path.{_∙_}
+use Rattle.words.specs.Inner.{partsFrom}
+use Rattle.words.proofs.Laws.Number.{number-behind}
 use borrow.Author.Needs.{needs}
 use Rattle.words.proofs.command.values_of.Statement.{statement}
 use Rattle.words.proofs.command.values_of.Tie as tie
 
+next-start-requires : tie.Need-next-start-requires
+next-start-requires c κs = search needs
+
+next-start-requires-2 : tie.Need-next-start-requires-2
+next-start-requires-2 c κs = search needs
+
+next-start-requires-3 : tie.Need-next-start-requires-3
+next-start-requires-3 c κs = search needs
+
 last-start-requires : tie.Need-last-start-requires
 last-start-requires c κs = search needs
+
+tail-requires : tie.Need-tail-requires
+tail-requires c κs = search needs
+
+fault-of-requires : tie.Need-fault-of-requires
+fault-of-requires c κs = search needs
 
 number-at-requires : tie.Need-number-at-requires
 number-at-requires c κs = search needs
@@ -20,63 +33,35 @@ number-at-requires-2 c κs = search needs
 number-at-requires-3 : tie.Need-number-at-requires-3
 number-at-requires-3 c κs = search needs
 
-sub-number-at : tie.Need-sub-number-at
-sub-number-at c = search needs
-
-part-number-at-start : tie.Need-part-number-at-start
-part-number-at-start c = search needs
-
-part-number-at-end : tie.Need-part-number-at-end
-part-number-at-end c = search needs
-
-number-at-requires-4 : tie.Need-number-at-requires-4
-number-at-requires-4 c κs = search needs
-
-sub-number-at-2 : tie.Need-sub-number-at-2
-sub-number-at-2 c = search needs
-
-part-number-at-start-2 : tie.Need-part-number-at-start-2
-part-number-at-start-2 c = search needs
-
-part-number-at-end-2 : tie.Need-part-number-at-end-2
-part-number-at-end-2 c = search needs
-
-number-at-requires-5 : tie.Need-number-at-requires-5
-number-at-requires-5 c κs = search needs
-
 returns : tie.Need-returns
+unfolding partsFrom
 returns c =
-    let third = c .before .before .before .before in
-    let start = third .before .before .before in
-    let s = start .before .before .args .line .now in
-    let from = start .last-start .result in
-    let here : WordAt s from = record { room = start .last-start .ensures .0; is = start .last-start .ensures .1 } in
-    let rest = word-rest s from here in (
-      cc (
-        third .before .before .number-at .ensures,
-        third .before .number-at2 .ensures,
-        third .number-at3 .ensures,
-        c .before .before .number-at4 .ensures ∙ ap (λ w. numberAt (parts 47 w) 0) rest,
-        c .number-at5 .ensures ∙ ap (λ w. numberAt (parts 47 w) 1) rest,
-        word-from s from here,
-      ),
-      here,
+    let found = c .before .before .before .before in
+    let last = found .before .before in
+    let third = last .before in
+    let n1 = third .before .before .next-start .ensures in
+    let n2 = third .before .next-start2 .ensures in
+    rw (
+      c .before .before .number-at .ensures ∙ number-behind 0 n1,
+      c .before .number-at2 .ensures ∙ number-behind 0 n2 ∙ number-behind 1 n1,
+      c .number-at3 .ensures ∙ number-behind 0 (third .next-start3 .ensures) ∙ number-behind 1 n2 ∙ number-behind 2 n1,
+      found .fault-of .ensures,
+      found .before .tail .ensures,
+      last .last-start .ensures .1,
+      last .last-start .ensures .0,
     )
 
 pub values-of-spec : {M : Type 1} → statement M
 values-of-spec =
     tie.close
     (tie.spec
+    next-start-requires
+    next-start-requires-2
+    next-start-requires-3
     last-start-requires
+    tail-requires
+    fault-of-requires
     number-at-requires
     number-at-requires-2
     number-at-requires-3
-    sub-number-at
-    part-number-at-start
-    part-number-at-end
-    number-at-requires-4
-    sub-number-at-2
-    part-number-at-start-2
-    part-number-at-end-2
-    number-at-requires-5
     returns)

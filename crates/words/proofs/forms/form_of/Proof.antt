@@ -1,9 +1,13 @@
 -- `words::forms::form_of` meets its contract: the forms of the code are those of the table.
+use borrow.Author.Tests.{eq-eqb, ne-eqb}
 use Rattle.words.specs.Parts.{parts}
 use Rattle.words.specs.Command.{table}
 use borrow.Author.Needs.{needs}
 use Rattle.words.proofs.forms.form_of.Statement.{statement}
 use Rattle.words.proofs.forms.form_of.Tie as tie
+
+returns : tie.Need-returns
+returns c = rw (eq-eqb _ _ (c .if1 .taken))
 
 slice-aggregate-first-form : tie.Need-slice-aggregate-first-form
 slice-aggregate-first-form c = search needs
@@ -11,9 +15,10 @@ slice-aggregate-first-form c = search needs
 first-form-requires : tie.Need-first-form-requires
 first-form-requires c κs = search needs
 
-returns : tie.Need-returns
+returns-2 : tie.Need-returns-2
 unfolding parts table
-returns c = c .first-form .ensures
+returns-2 c = rw (ne-eqb _ _ (c .before .before .if1 .left)) (c .first-form .ensures)
 
 pub form-of-spec : {M : Type 1} → statement M
-form-of-spec = tie.close (tie.spec slice-aggregate-first-form first-form-requires returns)
+form-of-spec =
+    tie.close (tie.spec returns slice-aggregate-first-form first-form-requires returns-2)

@@ -1,5 +1,4 @@
 -- `words::hex::is_hex` meets its contract, by what its two calls give.
-use Rattle.words.specs.Hex.{isHex}
 use borrow.Author.Needs.{needs}
 use Rattle.words.proofs.hex.is_hex.Statement.{statement}
 use Rattle.words.proofs.hex.is_hex.Tie as tie
@@ -14,7 +13,6 @@ is-all-requires : tie.Need-is-all-requires
 is-all-requires c κs = search needs
 
 returns : tie.Need-returns
-unfolding isHex
 returns c = rw (c .is-all .ensures, c .before .is-same .ensures)
 
 pub is-hex-spec : {M : Type 1} → statement M

@@ -1,38 +1,44 @@
 -- `words::hex::unpack` meets its contract: the first `i` bytes are those of the word, the others as they were.
 use Prim.Native.Nat.{_-_, _≤_}
-use mathlib.Core.Path.{_≡_, refl}
+use mathlib.Core.Path.{_≡_, refl, _∙_}
 use mathlib.Core.List.{_++_}
 use native.Mathlib.Omega.{arith}
-use lib.ListN.{drop}
-use Rattle.board.specs.Lists.{build}
-use Rattle.words.specs.Hex.{hexByte}
-use Rattle.words.proofs.Laws.Hex.{unpacked-more, unpacked-length}
+use lib.ListN.{length, take, drop, length-set}
+use Rattle.words.specs.Hex.{hexBytes}
+use Rattle.words.proofs.Laws.Hex.{put-more}
 use borrow.Author.Needs.{needs}
 use Rattle.words.proofs.hex.unpack.Statement.{statement}
 use Rattle.words.proofs.hex.unpack.Tie as tie
 
 abbrev Inv-loop : tie.InvT-loop
-Inv-loop word out₀ n i₀ out i = (i ≤ n) × (out ≡ build (λ k before. hexByte word k) i ++ drop i out₀)
+Inv-loop word out₀ n i₀ out i = (i ≤ n) × (length out ≡ length out₀) × (out ≡ take i (hexBytes word) ++ drop i out₀)
 
 abbrev μ-loop : tie.MeasureT-loop
 μ-loop word out₀ n i₀ out i = n - i
 
-bytes-of-requires : tie.Need-bytes-of-requires Inv-loop μ-loop
-bytes-of-requires c κs = search needs
+fewer-requires : tie.Need-fewer-requires Inv-loop μ-loop
+fewer-requires c κs = search needs
 
 loop-holds : tie.Need-loop-holds Inv-loop μ-loop
-unfolding build
-loop-holds c = (omega arith, refl)
+loop-holds c = (omega arith, refl, refl)
 
-byte-at-requires : tie.Need-byte-at-requires Inv-loop μ-loop
-byte-at-requires c κs = search needs
+mul-at : tie.Need-mul-at Inv-loop μ-loop
+mul-at c = search needs
+
+shared-slice-read-byte-of : tie.Need-shared-slice-read-byte-of Inv-loop μ-loop
+shared-slice-read-byte-of c = search needs
+
+add-byte-of : tie.Need-add-byte-of Inv-loop μ-loop
+add-byte-of c = search needs
+
+shared-slice-read-byte-of-2 : tie.Need-shared-slice-read-byte-of-2 Inv-loop μ-loop
+shared-slice-read-byte-of-2 c = search needs
+
+byte-of-requires : tie.Need-byte-of-requires Inv-loop μ-loop
+byte-of-requires c κs = search needs
 
 slice-write-out : tie.Need-slice-write-out Inv-loop μ-loop
-slice-write-out c =
-    let l = c .before .before .loop in
-    let a = c .before .before .before .before .before .before .args in
-    let size = unpacked-length (λ k before. hexByte (a .word .now) k) (a .out .now) (l .out) (l .i) (omega arith) (l .inv .1) in
-    omega arith
+slice-write-out c = search needs
 
 add-i : tie.Need-add-i Inv-loop μ-loop
 add-i c = search needs
@@ -42,22 +48,18 @@ loop-less c = search needs
 
 loop-again : tie.Need-loop-again Inv-loop μ-loop
 loop-again c =
-    let l = c .before .before .loop in
-    let a = c .before .before .before .before .before .before .args in
-    (omega arith, unpacked-more (λ k before. hexByte (a .word .now) k) (a .out .now) (l .out) (l .i) (c .byte-at .result) (omega arith) (c .byte-at .ensures) (l .inv .1))
+    let at-loop = c .before .before .before .before in
+    let l = at-loop .loop in
+    let a = at-loop .before .before .before .before .args in
+    (omega arith, length-set (l .out) (l .i) _ ∙ l .inv .1, put-more _ _ (a .out .now) (l .out) (l .i) _ (l .inv .2) (omega arith) (omega arith) (c .byte-of .ensures))
 
 same-length : tie.Need-same-length Inv-loop μ-loop
-same-length c =
-    let l = c .before .loop in
-    let a = c .before .before .before .before .before .args in
-    unpacked-length (λ k before. hexByte (a .word .now) k) (a .out .now) (l .out) (l .i) (omega arith) (l .inv .1)
+same-length c = search needs
 
 returns : tie.Need-returns Inv-loop μ-loop
 returns c =
-    let l = c .before .loop in
-    let a = c .before .before .before .before .before .args in
-    let whole : l .i ≡ c .before .before .bytes-of .result = omega arith in
-    (c .before .before .bytes-of .ensures, rw (← (c .before .before .bytes-of .ensures), ← whole) (l .inv .1))
+    let whole : c .before .loop .i ≡ c .before .before .fewer .result = omega arith in
+    (c .before .before .fewer .ensures, rw (← whole) (c .before .loop .inv .2))
 
 pub unpack-spec : {M : Type 1} → statement M
 unpack-spec =
@@ -65,9 +67,13 @@ unpack-spec =
     (tie.spec
     Inv-loop
     μ-loop
-    bytes-of-requires
+    fewer-requires
     loop-holds
-    byte-at-requires
+    mul-at
+    shared-slice-read-byte-of
+    add-byte-of
+    shared-slice-read-byte-of-2
+    byte-of-requires
     slice-write-out
     add-i
     loop-less

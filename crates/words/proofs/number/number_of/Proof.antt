@@ -1,4 +1,4 @@
--- `words::number::read` meets its contract: the first `i` digits come to `value`.
+-- `words::number::number_of` meets its contract: the first `i` digits come to `value`.
 use Prim.Native.Nat.{_-_, _^_, _≤_, _<_}
 use mathlib.Core.Path.{_≡_, refl, sym, _∙_}
 use native.Mathlib.Omega.{arith}
@@ -8,8 +8,8 @@ use borrow.Author.Tests.{not-true, not-false}
 use Rattle.words.specs.Number.{valueFrom, valueOf}
 use Rattle.words.proofs.Laws.Number.{no-digits, value-more, too-wide, value-end}
 use borrow.Author.Needs.{needs}
-use Rattle.words.proofs.number.read.Statement.{statement}
-use Rattle.words.proofs.number.read.Tie as tie
+use Rattle.words.proofs.number.number_of.Statement.{statement}
+use Rattle.words.proofs.number.number_of.Tie as tie
 
 abbrev Inv-loop : tie.InvT-loop
 Inv-loop word value₀ i₀ value i = (i ≤ length word) × (value < 2 ^ 64) × (valueOf word ≡ valueFrom value (drop i word))
@@ -69,8 +69,8 @@ returns-3 c =
     let all = sym (c .before .before .before .is-all .ensures) ∙ not-false _ (c .before .before .if1 .left) in
     value-end w (l .i) (l .value) (l .inv .2) all (omega arith) (l .inv .1)
 
-pub read-spec : {M : Type 1} → statement M
-read-spec =
+pub number-of-spec : {M : Type 1} → statement M
+number-of-spec =
     tie.close
     (tie.spec
     Inv-loop
