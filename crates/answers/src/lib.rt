@@ -125,5 +125,9 @@ pub fn alter_answer(
     ensures { λ n. ⌜ Said (alterPromise (now (img .entry)) (now (book .entry)) line «record») (now (img .exit) ∷ now (book .exit) ∷ []) (countedLine (length (now (book .entry)))) n (now (out .exit)) ⌝ }
 {
     let all = book.len();
-    counted_line(find::said::counted(alter::alter(img, book, line, record)), all, out)
+    counted_line(
+        find::said::counted(alter::alter(img, book, line, record)),
+        all,
+        out,
+    )
 }

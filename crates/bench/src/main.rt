@@ -2,7 +2,11 @@
 mod obey;
 
 use crate::obey::obey;
+use image::limits::Entry;
 use kept::Held;
+use kept::lent_book::MOST_BOOK;
+use kept::lent_rows::Lengths;
+use kept::lent_rows::MOST_ROW;
 use ports::input::Place;
 use ports::input::Step;
 use ports::input::next_step;
@@ -20,17 +24,17 @@ fn blank_input() -> [u8; 262144]
 }
 
 // Room for a row.
-fn blank_row() -> [u8; 8192]
+fn blank_row() -> [u8; MOST_ROW]
     ensures { λ r. ⌜ 8192 ≡ length r ⌝ }
 {
-    [0u8; 8192]
+    [0u8; MOST_ROW]
 }
 
 // Room for a book.
-fn blank_book() -> [u32; 16384]
+fn blank_book() -> [Entry; MOST_BOOK]
     ensures { λ r. ⌜ 16384 ≡ length r ⌝ }
 {
-    [0u32; 16384]
+    [0; MOST_BOOK]
 }
 
 // Where the console stands between two steps; it is not open at the end of the input.
@@ -57,7 +61,7 @@ fn turn(
     img: &mut [u8],
     good: &mut [u8],
     faulty: &mut [u8],
-    book: &mut [u32],
+    book: &mut [Entry],
     at: Place,
     held: Held,
 ) -> State
@@ -88,7 +92,7 @@ fn turn(
 }
 
 // Takes steps until the end of the input.
-fn talk(buf: &mut [u8], img: &mut [u8], good: &mut [u8], faulty: &mut [u8], book: &mut [u32])
+fn talk(buf: &mut [u8], img: &mut [u8], good: &mut [u8], faulty: &mut [u8], book: &mut [Entry])
     requires { ⌜ (length (now buf) ≡ roomy) × Arrays (now img) (now good) (now faulty) (now book) ⌝ }
 {
     let mut at = Place {
@@ -99,8 +103,7 @@ fn talk(buf: &mut [u8], img: &mut [u8], good: &mut [u8], faulty: &mut [u8], book
     };
     let mut held = Held {
         image: 0,
-        good: 0,
-        faulty: 0,
+        rows: Lengths { good: 0, faulty: 0 },
         book: 0,
     };
     let mut turns = u64::MAX;

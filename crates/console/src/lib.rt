@@ -1,3 +1,5 @@
-// The console's commands that use what is lent as it is.
-pub mod answer;
-pub mod part;
+// The console's commands, each group with what it uses alone.
+pub mod help;
+pub mod on_book;
+pub mod on_image;
+pub mod on_rows;

@@ -3,9 +3,11 @@ use mathlib.Core.Path.{_≡_}
 use mathlib.Core.List.{List, _++_}
 use mathlib.Core.Logic.{_⊎_}
 use Prim.Native.Nat.{ℕ, _/_, _≤_, _<_}
-use lib.ListN.{length, drop, replicate}
+use lib.ListN.{length, drop}
+use Rattle.board.specs.Lists.{build}
 use Rattle.words.specs.Hex.{hexBytes}
 use Rattle.kept.specs.declared.Held.{Held}
+use Rattle.kept.specs.declared.lent_rows.Lengths.{Lengths}
 
 -- the longest image, row and book that the console keeps
 abbrev pub mostImage : ℕ
@@ -24,11 +26,18 @@ freshByte = 9
 abbrev pub freshNumber : ℕ
 freshNumber = 99
 
+-- n numbers, each v
+abbrev pub alike : ℕ → ℕ → List ℕ
+alike v n = build (λ i before. v) n
+
 -- the lengths are within the arrays
+pub record RowsWithin (r : Lengths) : Type 0 where
+  pub good : r .good ≤ mostRow
+  pub faulty : r .faulty ≤ mostRow
+
 pub record Within (h : Held) : Type 0 where
   pub image : h .image ≤ mostImage
-  pub good : h .good ≤ mostRow
-  pub faulty : h .faulty ≤ mostRow
+  pub rows : RowsWithin (h .rows)
   pub book : h .book ≤ mostBook
 
 -- the arrays are as long as they can be lent
@@ -39,23 +48,18 @@ pub record Arrays (img good faulty book : List ℕ) : Type 0 where
   pub book-is : length book ≡ mostBook
 
 -- lend book: a fresh book of that length at the front of the array, and nothing changed where it is too long
-pub record LendBookLeaves (n : ℕ) (h : Held) (book : List ℕ) (r : Held) (after : List ℕ) : Type 0 where
-  pub within : Within r
-  pub lends : n ≤ mostBook → (r ≡ record { image = h .image; good = h .good; faulty = h .faulty; book = n }) × (after ≡ replicate n freshNumber ++ drop n book)
-  pub refuses : mostBook < n → (r ≡ h) × (after ≡ book)
+pub record LendBookLeaves (n old : ℕ) (book : List ℕ) (r : ℕ) (after : List ℕ) : Type 0 where
+  pub lends : n ≤ mostBook → (r ≡ n) × (after ≡ alike freshNumber n ++ drop n book)
+  pub refuses : mostBook < n → (r ≡ old) × (after ≡ book)
 
 -- lend rows: the same of two rows
-pub record LendRowsLeaves (g f : ℕ) (h : Held) (good faulty : List ℕ) (r : Held) (goodAfter faultyAfter : List ℕ) : Type 0 where
-  pub within : Within r
+pub record LendRowsLeaves (g f : ℕ) (old : Lengths) (good faulty : List ℕ) (r : Lengths) (goodAfter faultyAfter : List ℕ) : Type 0 where
   pub lends :
       g ≤ mostRow → f ≤ mostRow
-      → (r ≡ record { image = h .image; good = g; faulty = f; book = h .book })
-      × (goodAfter ≡ replicate g freshByte ++ drop g good)
-      × (faultyAfter ≡ replicate f freshByte ++ drop f faulty)
-  pub refuses : (mostRow < g) ⊎ (mostRow < f) → (r ≡ h) × (goodAfter ≡ good) × (faultyAfter ≡ faulty)
+      → (r ≡ record { good = g; faulty = f }) × (goodAfter ≡ alike freshByte g ++ drop g good) × (faultyAfter ≡ alike freshByte f ++ drop f faulty)
+  pub refuses : (mostRow < g) ⊎ (mostRow < f) → (r ≡ old) × (goodAfter ≡ good) × (faultyAfter ≡ faulty)
 
 -- put good and put faulty: a HEX word's bytes at the front of the array, and nothing changed where they are too many
 pub record PutRowLeaves (word row : List ℕ) (old r : ℕ) (after : List ℕ) : Type 0 where
-  pub within : r ≤ mostRow
   pub puts : length word / 2 ≤ mostRow → (r ≡ length word / 2) × (after ≡ hexBytes word ++ drop r row)
   pub refuses : mostRow < length word / 2 → (r ≡ old) × (after ≡ row)

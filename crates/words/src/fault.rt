@@ -2,8 +2,8 @@
 use crate::number::number_of;
 use crate::parts::fewer;
 use crate::parts::first_part;
-use image::numbers::tail;
 use board::Fault;
+use image::numbers::tail;
 ghost use mathlib.Core.Path.{_≡_};
 ghost use Rattle.words.specs.Fault.{stuckWord, faultOf};
 

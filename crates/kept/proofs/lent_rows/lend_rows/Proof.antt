@@ -1,17 +1,17 @@
--- `kept::lend_rows` lends parts that are in the arrays.
-use native.Mathlib.Omega.{arith}
+-- `kept::lent_rows::lend_rows` meets its contract: it lends parts that are in the arrays.
 use mathlib.Core.Path.{_≡_, refl}
-use mathlib.Core.Bool.{_||_}
 use mathlib.Core.Logic.{⊎-elim}
+use mathlib.Core.Bool.{_||_}
 use Prim.Native.Nat.{_≤_}
+use native.Mathlib.Omega.{arith}
 use lib.Dec.{ltb}
 use lib.ListN.{length, take, length-take}
 use borrow.Author.Tests.{ltb-false, le-ltb}
 use Rattle.board.proofs.Lists.{clash, or-false}
 use Rattle.kept.specs.Kept.{mostRow}
 use borrow.Author.Needs.{needs}
-use Rattle.kept.proofs.lend_rows.Statement.{statement}
-use Rattle.kept.proofs.lend_rows.Tie as tie
+use Rattle.kept.proofs.lent_rows.lend_rows.Statement.{statement}
+use Rattle.kept.proofs.lent_rows.lend_rows.Tie as tie
 
 -- where neither length is too long
 few : (c : tie.Else1) → let a = c .before .before .before .args in (a .g ≤ mostRow) × (a .f ≤ mostRow)
@@ -20,19 +20,12 @@ few c =
     let (g, f) = or-false (ltb mostRow (a .g)) (ltb mostRow (a .f)) (c .if1 .left) in
     (ltb-false mostRow (a .g) g, ltb-false mostRow (a .f) f)
 
-slice-aggregate-write-plain : tie.Need-slice-aggregate-write-plain
-slice-aggregate-write-plain c = search needs
-
-write-plain-requires : tie.Need-write-plain-requires
-write-plain-requires c κs = search needs
-
 returns : tie.Need-returns
 returns c =
     let past = c .before .before in
-    let start = past .before .before .before in
+    let a = past .before .before .before .args in
     record {
-      within = start .pre .2;
-      lends = λ g f. clash (ltb mostRow (start .args .g) || ltb mostRow (start .args .f)) (past .if1 .taken) (rw (le-ltb mostRow (start .args .g) g) (le-ltb mostRow (start .args .f) f));
+      lends = λ g f. clash (ltb mostRow (a .g) || ltb mostRow (a .f)) (past .if1 .taken) (rw (le-ltb mostRow (a .g) g) (le-ltb mostRow (a .f) f));
       refuses = λ w. (refl, refl, refl);
     }
 
@@ -41,9 +34,6 @@ slice-relend-prefix-freshen-row c = omega (arith, few c, c .before .before .befo
 
 slice-aggregate-freshen-row : tie.Need-slice-aggregate-freshen-row
 slice-aggregate-freshen-row c = simp length-take (omega (arith, few (c .before), c .before .before .before .before .pre))
-
-freshen-row-requires : tie.Need-freshen-row-requires
-freshen-row-requires c κs = search needs
 
 slice-relend-prefix-freshen-row-2 : tie.Need-slice-relend-prefix-freshen-row-2
 slice-relend-prefix-freshen-row-2 c =
@@ -55,33 +45,16 @@ slice-aggregate-freshen-row-2 c =
     let past = c .before .before .before .before .before in
     simp length-take (omega (arith, few past, past .before .before .before .pre))
 
-freshen-row-requires-2 : tie.Need-freshen-row-requires-2
-freshen-row-requires-2 c κs = search needs
-
-slice-aggregate-write-plain-2 : tie.Need-slice-aggregate-write-plain-2
-slice-aggregate-write-plain-2 c = search needs
-
-write-plain-requires-2 : tie.Need-write-plain-requires-2
-write-plain-requires-2 c κs = search needs
-
-same-length : tie.Need-same-length
-same-length c = search needs
-
-same-length-2 : tie.Need-same-length-2
-same-length-2 c = search needs
-
 returns-2 : tie.Need-returns-2
 returns-2 c =
     let second = c .before .before .before .before in
     let first = second .before .before .before .before in
     let past = first .before .before in
     let start = past .before .before .before in
-    let held = start .pre .2 in
     let (g, f) = few past in
     let good-size : length (take (start .args .g) (start .args .good .now)) ≡ start .args .g = simp length-take (omega (arith, start .pre)) in
     let faulty-size : length (take (start .args .f) (start .args .faulty .now)) ≡ start .args .f = simp length-take (omega (arith, start .pre)) in
     record {
-      within = record { image = held .image; good = g; faulty = f; book = held .book };
       lends = λ l m. (refl, rw (first .freshen-row .ensures, good-size), rw (second .freshen-row2 .ensures, faulty-size));
       refuses = λ w. ⊎-elim (λ l. absurd (omega (arith, l, g))) (λ l. absurd (omega (arith, l, f))) w;
     }
@@ -89,18 +62,6 @@ returns-2 c =
 pub lend-rows-spec : {M : Type 1} → statement M
 lend-rows-spec =
     tie.close
-    (tie.spec
-    slice-aggregate-write-plain
-    write-plain-requires
-    returns
-    slice-relend-prefix-freshen-row
-    slice-aggregate-freshen-row
-    freshen-row-requires
-    slice-relend-prefix-freshen-row-2
-    slice-aggregate-freshen-row-2
-    freshen-row-requires-2
-    slice-aggregate-write-plain-2
-    write-plain-requires-2
-    same-length
-    same-length-2
-    returns-2)
+    (tie.spec (λ c. search needs) (λ c κs. search needs) returns slice-relend-prefix-freshen-row slice-aggregate-freshen-row (λ c κs. search needs)
+    slice-relend-prefix-freshen-row-2 slice-aggregate-freshen-row-2 (λ c κs. search needs) (λ c. search needs) (λ c κs. search needs) (λ c. search needs)
+    (λ c. search needs) returns-2)
