@@ -49,11 +49,13 @@ pub record Arrays (img good faulty book : List ℕ) : Type 0 where
 
 -- lend book: a fresh book of that length at the front of the array, and nothing changed where it is too long
 pub record LendBookLeaves (n old : ℕ) (book : List ℕ) (r : ℕ) (after : List ℕ) : Type 0 where
+  pub within : old ≤ mostBook → r ≤ mostBook
   pub lends : n ≤ mostBook → (r ≡ n) × (after ≡ alike freshNumber n ++ drop n book)
   pub refuses : mostBook < n → (r ≡ old) × (after ≡ book)
 
 -- lend rows: the same of two rows
 pub record LendRowsLeaves (g f : ℕ) (old : Lengths) (good faulty : List ℕ) (r : Lengths) (goodAfter faultyAfter : List ℕ) : Type 0 where
+  pub within : RowsWithin old → RowsWithin r
   pub lends :
       g ≤ mostRow → f ≤ mostRow
       → (r ≡ record { good = g; faulty = f }) × (goodAfter ≡ alike freshByte g ++ drop g good) × (faultyAfter ≡ alike freshByte f ++ drop f faulty)
@@ -61,5 +63,6 @@ pub record LendRowsLeaves (g f : ℕ) (old : Lengths) (good faulty : List ℕ) (
 
 -- put good and put faulty: a HEX word's bytes at the front of the array, and nothing changed where they are too many
 pub record PutRowLeaves (word row : List ℕ) (old r : ℕ) (after : List ℕ) : Type 0 where
+  pub within : old ≤ mostRow → r ≤ mostRow
   pub puts : length word / 2 ≤ mostRow → (r ≡ length word / 2) × (after ≡ hexBytes word ++ drop r row)
   pub refuses : mostRow < length word / 2 → (r ≡ old) × (after ≡ row)

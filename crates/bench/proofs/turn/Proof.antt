@@ -74,7 +74,10 @@ obey-requires-2 : tie.Need-obey-requires-2
 obey-requires-2 c κs = search needs
 
 same-length : tie.Need-same-length
-same-length c = search needs
+same-length c =
+    let obeyed = c .before .before .before .before .before .before .before .before .before in
+    let stepped = obeyed .before .before .before .before .before .before .before .before .before .before .before .before in
+    omega (arith, stepped .next-step .kept .0)
 
 same-length-2 : tie.Need-same-length-2
 same-length-2 c = search needs

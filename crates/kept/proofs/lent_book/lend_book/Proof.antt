@@ -7,7 +7,7 @@ use Rattle.kept.proofs.lent_book.lend_book.Statement.{statement}
 use Rattle.kept.proofs.lent_book.lend_book.Tie as tie
 
 returns : tie.Need-returns
-returns c = record { lends = λ l. absurd (omega (arith, l, c .before .before .if1 .taken)); refuses = λ l. (refl, refl) }
+returns c = record { within = λ l. l; lends = λ l. absurd (omega (arith, l, c .before .before .if1 .taken)); refuses = λ l. (refl, refl) }
 
 slice-aggregate-freshen-book : tie.Need-slice-aggregate-freshen-book
 slice-aggregate-freshen-book c = simp length-take (omega arith)
@@ -18,7 +18,7 @@ returns-2 c =
     let past = fresh .before .before in
     let a = past .before .before .args in
     let size : length (take (a .numbers) (a .book .now)) ≡ a .numbers = simp length-take (omega arith) in
-    record { lends = λ l. (refl, rw (fresh .freshen-book .ensures, size)); refuses = λ l. absurd (omega (arith, l, past .if1 .left)) }
+    record { within = λ l. past .if1 .left; lends = λ l. (refl, rw (fresh .freshen-book .ensures, size)); refuses = λ l. absurd (omega (arith, l, past .if1 .left)) }
 
 pub lend-book-spec : {M : Type 1} → statement M
 lend-book-spec =

@@ -25,6 +25,7 @@ returns c =
     let past = c .before .before in
     let a = past .before .before .before .args in
     record {
+      within = λ l. l;
       lends = λ g f. clash (ltb mostRow (a .g) || ltb mostRow (a .f)) (past .if1 .taken) (rw (le-ltb mostRow (a .g) g) (le-ltb mostRow (a .f) f));
       refuses = λ w. (refl, refl, refl);
     }
@@ -55,6 +56,7 @@ returns-2 c =
     let good-size : length (take (start .args .g) (start .args .good .now)) ≡ start .args .g = simp length-take (omega (arith, start .pre)) in
     let faulty-size : length (take (start .args .f) (start .args .faulty .now)) ≡ start .args .f = simp length-take (omega (arith, start .pre)) in
     record {
+      within = λ l. record { good = g; faulty = f };
       lends = λ l m. (refl, rw (first .freshen-row .ensures, good-size), rw (second .freshen-row2 .ensures, faulty-size));
       refuses = λ w. ⊎-elim (λ l. absurd (omega (arith, l, g))) (λ l. absurd (omega (arith, l, f))) w;
     }

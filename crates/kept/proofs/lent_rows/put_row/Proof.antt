@@ -14,7 +14,7 @@ use Rattle.kept.proofs.lent_rows.put_row.Tie as tie
 returns : tie.Need-returns
 returns c =
     let past = c .before .before in
-    record { puts = λ l. absurd (omega (arith, l, past .if1 .taken, past .before .bytes-of .ensures)); refuses = λ l. (refl, refl) }
+    record { within = λ l. l; puts = λ l. absurd (omega (arith, l, past .if1 .taken, past .before .bytes-of .ensures)); refuses = λ l. (refl, refl) }
 
 returns-2 : tie.Need-returns-2
 returns-2 c =
@@ -28,6 +28,7 @@ returns-2 c =
     let all : done .unpack .result ≡ length word / 2 = n ∙ min-eq-left room in
     let whole : take (length word / 2) (hexBytes word) ≡ hexBytes word = take-all _ _ (le-of-eq (build-length _ (length word / 2))) in
     record {
+      within = λ l. omega (arith, all, room, start .pre);
       puts = λ l. (all, left ∙ rw (all, whole));
       refuses = λ l. absurd (omega (arith, l, room, start .pre));
     }

@@ -1,0 +1,18 @@
+-- `console::on_book::on_book` meets its contract: what is lent is in the array.
+use native.Mathlib.Omega.{arith}
+use lib.ListN.{length-take}
+use borrow.Author.Needs.{needs}
+use Rattle.console.proofs.on_book.on_book.Statement.{statement}
+use Rattle.console.proofs.on_book.on_book.Tie as tie
+
+returns : tie.Need-returns
+returns c = c .before .before .lend-book .ensures .within (c .before .before .before .before .before .before .before .before .before .before .pre .1)
+
+slice-aggregate-use-book : tie.Need-slice-aggregate-use-book
+slice-aggregate-use-book c = simp length-take (omega arith)
+
+pub on-book-spec : {M : Type 1} → statement M
+on-book-spec =
+    tie.close
+    (tie.spec (λ c. search needs) (λ c κs. search needs) (λ c. search needs) slice-aggregate-use-book (λ c κs. search needs) (λ c. search needs) returns
+    (λ c. search needs) (λ c. search needs) (λ c. search needs))
