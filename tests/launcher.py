@@ -48,8 +48,8 @@ echo "rt: ok, 4 crates proved"
 LOADER = '#!/bin/sh\n[ "$1" = --library-path ] && shift 2 && exec sh "$@"\n'
 CRATES = "tool: side wing io libc # the program\n# wing: gone\nother: base\nside: base\nwing: base\nbase:\n"
 FILES = {
-    "base/src/lib.rt": "base", "base/specs/Lib.antt": "base", "side/src/lib.rt": "side", "wing/src/lib.rt": "wing", "side/proofs/run/Proof.antt": "proof",
-    "other/src/lib.rt": "other", "tool/must-fail/wrong.edit": "edit", "tool/stdout": "",
+    "base/src/lib.rt": "base", "base/specs/Lib.antt": "base", "side/src/lib.rt": "side", "side/proofs/run/Proof.antt": "proof",
+    "wing/src/lib.rt": "wing", "other/src/lib.rt": "other", "tool/must-fail/wrong.edit": "edit", "tool/stdout": "",
 }
 PROVING = r"bench: proving tool: crate ([1-4]) of 4 \(([\w ]+)\), [0-9]+ s"
 WAITING = r"bench: waiting for another run that proves here, [0-9]+ s"
@@ -84,9 +84,10 @@ class Room:
         """The launcher's copy, the crates' files, and the kit."""
         self.folder, self.repository = folder, folder / "repository"
         self.crates, self.target, self.said = self.repository / "crates", self.repository / "target", folder / "said"
-        for name, text in {"rt": RT, f"kit/on/{os.uname().machine}/toolchain/lib/ld-linux-x86-64.so.2": LOADER}.items():
-            put(folder / name, text)
-            (folder / name).chmod(0o755)
+        self.tools = folder / "kit/on" / os.uname().machine / "toolchain"
+        for path, text in {folder / "rt": RT, self.tools / "lib/ld-linux-x86-64.so.2": LOADER}.items():
+            put(path, text)
+            path.chmod(0o755)
         for name, text in {"kit/KIT-ID": "kit 1\n", "kit/docs/START-HERE.md": "", "calls": "", "said": "", "in": "in\n"}.items():
             put(folder / name, text)
         for name, text in {**FILES, "tool/src/main.rt": program("one")}.items():
@@ -224,7 +225,7 @@ def waits_for_the_gate(room):
 
 
 def takes_words(room):
-    """What the launcher's own words do."""
+    """What the launcher's own words do, and that a kit's emulator is used where it has one."""
     put(room.crates / "tool/src/main.rt", program("seven"))
     ended = room.run("--build", "tool")
     count("--build", (ended, room.calls()) == ((0, "", ""), 1), ended)
@@ -233,6 +234,10 @@ def takes_words(room):
     count("a word of the program's", ended == (0, "seven <--build>\nin\n", ""), ended)
     status, out, said = room.run("base")
     count("no program", (status, out, said) == (2, "", "bench: no program base\n") and room.calls() == 0, (status, out, said))
+    emulator = room.tools / "bin/qemu-x86_64"
+    put(emulator, "#!/bin/sh\nprintf 'emulated ' && exec \"$@\"\n")
+    emulator.chmod(0o755)
+    room.expect("emulated", 0, "emulated seven")
 
 
 with tempfile.TemporaryDirectory() as folder:
