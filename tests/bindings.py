@@ -12,7 +12,9 @@ import subprocess
 import sys
 from pathlib import Path
 
-ROOT = Path(__file__).resolve().parent.parent
+import programs
+from programs import ROOT
+
 ARCHIVE = ROOT / "target/staticlib/libexports.a"
 ROOM = ROOT / "target/bindings"
 TARGET = "x86_64-unknown-linux-gnu"
@@ -96,9 +98,8 @@ def tools():
     """The C compiler, its words, and what runs an x86-64 program; ends the tests in words where there is none."""
     if platform.machine() == "x86_64":
         return os.environ.get("CC", "cc"), [], []
-    kit = Path(subprocess.check_output(["rt", "doc"], text=True).strip()).parent.parent
     compiler = shutil.which("x86_64-linux-gnu-gcc")
-    own = kit / "on" / platform.machine() / "toolchain/bin/qemu-x86_64"
+    own = programs.kit() / "on" / platform.machine() / "toolchain/bin/qemu-x86_64"
     emulator = shutil.which("qemu-x86_64") or shutil.which("qemu-x86_64-static") or (str(own) if own.exists() else None)
     lacking = [n for n, t in (("x86_64-linux-gnu-gcc", compiler), ("qemu-x86_64", emulator)) if t is None]
     if lacking:
@@ -129,7 +130,7 @@ def from_c(compiler, words, runner):
 
 def from_rust(compiler, runner):
     """The wrapper's tests, and its example's numbers."""
-    at = ["--offline", "--quiet", "--manifest-path", ROOT / "bindings/rust/Cargo.toml"]
+    at = [*programs.CARGO, "--manifest-path", ROOT / "bindings/rust/Cargo.toml"]
     words = dict(os.environ, FORTIZEMBO_LIB=str(ARCHIVE.parent), CARGO_TARGET_DIR=str(ROOM / "rust"))
     if runner:
         root = subprocess.check_output(["rustc", "--print", "sysroot"], text=True).strip()
@@ -148,7 +149,8 @@ def from_rust(compiler, runner):
 
 
 compiler, words, runner = tools()
-run("archive", ["rt", "staticlib", "exports"], cwd=ROOT)
+# one rt at a time in this folder, as the launcher has it
+run("archive", ["flock", ROOT, "rt", "staticlib", "exports"], cwd=ROOT)
 if failed:
     end()
 ROOM.mkdir(parents=True, exist_ok=True)

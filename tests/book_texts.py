@@ -3,16 +3,13 @@
 
 Its last line is 'N passed, M failed'.
 """
-import importlib.util
 import random
 import subprocess
 import sys
-from pathlib import Path
 
-ROOT = Path(__file__).resolve().parent.parent
-spec = importlib.util.spec_from_file_location("make", ROOT / "boards/make.py")
-make = importlib.util.module_from_spec(spec)
-spec.loader.exec_module(make)
+import programs
+from shapes import make
+
 record, image = make.record, make.image
 
 
@@ -51,10 +48,12 @@ CASES = {
     "a megabyte that ends in bad counts": bytes(1_000_000) + make.image([], [0])[-12:],
 }
 
+programs.build_oracle()
+programs.build("book")
 passed = failed = 0
 for name, data in CASES.items():
-    expected = run([str(ROOT / "tests/oracle/target/release/oracle"), "book"], data)
-    written = run([str(ROOT / "bench"), "book"], data)
+    expected = run([programs.ORACLE, "book"], data)
+    written = run([programs.LAUNCHER, "book"], data)
     if written == expected and expected.endswith(b"\n"):
         passed += 1
     else:

@@ -3,15 +3,12 @@
 
 Its last line is 'N passed, M failed'.
 """
-import importlib.util
 import subprocess
 import sys
-from pathlib import Path
 
-ROOT = Path(__file__).resolve().parent.parent
-spec = importlib.util.spec_from_file_location("make", ROOT / "boards/make.py")
-make = importlib.util.module_from_spec(spec)
-spec.loader.exec_module(make)
+import programs
+from shapes import make
+
 record, image, changed = make.record, make.image, make.changed
 INPUT, BUFFER, NOT, AND, OR, T = make.INPUT, make.BUFFER, make.NOT, make.AND, make.OR, make.T
 
@@ -78,7 +75,8 @@ def main():
     names = [name for name, _, _ in IMAGES] + ["board T again"] + [asked for asked, _ in ON_T]
     expected = [said for _, _, said in IMAGES] + ["board 3 lines 1 inputs 1 outputs"] + [said for _, said in ON_T]
     script = "".join(command + "\n" for command in commands)
-    written = subprocess.run([str(ROOT / "bench")], input=script, stdout=subprocess.PIPE, text=True, check=True, timeout=600).stdout
+    programs.build("bench")
+    written = subprocess.run([programs.LAUNCHER], input=script, stdout=subprocess.PIPE, text=True, check=True, timeout=600).stdout
     answers = written.split("\n")[:-1]
     wrong = [f"FAILED: {n}: expected {e!r}, found {a!r}" for n, e, a in zip(names, expected, answers) if e != a]
     wrong += ["FAILED: not one answer a command"] * (len(answers) != len(expected))

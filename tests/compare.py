@@ -17,12 +17,11 @@ import sys
 import tempfile
 from pathlib import Path
 
+import programs
 import scripts
 from shapes import ROOT, make
 
-ORACLE = [str(ROOT / "tests/oracle/target/release/oracle"), "console"]
-PRODUCT = [str(ROOT / "bench"), "bench"]
-BUILD = ["cargo", "build", "--release", "--offline", "--quiet", "--manifest-path", str(ROOT / "tests/oracle/Cargo.toml")]
+ORACLE, PRODUCT = [programs.ORACLE, "console"], [programs.LAUNCHER, "bench"]
 FAILURES = ROOT / "target/compare"
 # commands in one run of a program, how often each answer must arise at least, and from how many commands on that is asked
 SCRIPT, ENOUGH, ENOUGH_FROM = 5_000, 20, 20_000
@@ -258,7 +257,9 @@ def main():
     words.add_argument("--product", nargs="+", default=PRODUCT, help="another program to hold against the independent one")
     asked = words.parse_args()
     asked.product[0] = str(Path(asked.product[0]).resolve())
-    subprocess.run(BUILD, check=True)
+    programs.build_oracle()
+    if asked.product[0] == programs.LAUNCHER:
+        programs.build("bench")
     at_once = answers_at_once(asked.product)
     passed, failures, counts = compare(asked.seed, asked.commands, asked.product)
     endings = ends_alike(asked.product, ORACLE)

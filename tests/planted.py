@@ -16,6 +16,7 @@ import tempfile
 from pathlib import Path
 
 import compare
+import programs
 from shapes import ROOT
 
 SEED, SCRIPTS = 1, 12
@@ -70,7 +71,7 @@ def product_edits():
 
 def keeping_kit(room):
     """A kit for `rt try` whose linker keeps what it links in room/kept; all else is the installed kit's."""
-    kit = Path(subprocess.check_output(["rt", "doc"], text=True)).parent.parent
+    kit = programs.kit()
     machine = Path("on") / os.uname().machine
     bare = [Path("."), Path("on"), machine, machine / "toolchain", machine / "toolchain/bin"]
     for folder in bare:
@@ -87,10 +88,9 @@ def keeping_kit(room):
 
 
 def unproved(edit, room):
-    """The launcher in a copy of the product with an edit, compiled with no proof at -O3, which `rt try` links second."""
+    """The words that start the console of a copy of the product with an edit, compiled with no proof at -O3, which `rt try` links second."""
     shutil.copytree(ROOT / "crates", room / "crates")
-    for name in ("crates.txt", "bench"):
-        shutil.copy(ROOT / name, room)
+    shutil.copy(ROOT / "crates.txt", room)
     for name in ("stdin", "stdout"):
         (room / "crates/bench" / name).write_bytes(b"")
     if edit:
@@ -98,9 +98,7 @@ def unproved(edit, room):
     tried = subprocess.run(["rt", "try", "bench"], cwd=room, env={**os.environ, "RATTLE_HOME": str(keeping_kit(room))}, capture_output=True)
     if not (room / "kept/1").exists():
         raise SystemExit(f"{edit}: rt try compiled nothing: {tried.stdout} {tried.stderr}")
-    (room / "target/bin").mkdir(parents=True)
-    shutil.copy(room / "kept/1", room / "target/bin/bench")
-    return [str(room / "bench"), "bench"]
+    return programs.unproved(room / "kept/1")
 
 
 def caught_in_product(edit):
@@ -111,7 +109,7 @@ def caught_in_product(edit):
 
 def main():
     """Every planted mistake, whether it was caught and by which answer, and the count."""
-    subprocess.run(compare.BUILD, check=True)
+    programs.build_oracle()
     if sys.argv[1:] == ["--product"]:
         edits, check = product_edits(), caught_in_product
         if caught_in_product(None):

@@ -78,7 +78,7 @@ fn gates() {
 
 // Gives the one value a kind has under every filling of unknown pins by 0 and 1, or nothing.
 fn constant(kind: u8, pins: &[Option<u8>]) -> Option<u8> {
-    let agrees = |full: &Vec<u8>| pins.iter().zip(full).all(|(pin, value)| pin.is_none_or(|known| known == *value));
+    let agrees = |full: &Vec<u8>| pins.iter().zip(full).all(|(pin, value)| pin.iter().all(|known| known == value));
     let fillings = lists(pins.len() as u32, 2).into_iter().filter(agrees);
     let mut values: Vec<u8> = fillings.map(|full| table(kind, &full)).collect();
     values.dedup();
