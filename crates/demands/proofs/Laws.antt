@@ -1,9 +1,9 @@
 -- What the front page cites beside the laws of the calls.
 use mathlib.Core.Path.{_≡_, refl, sym, ap, _∙_}
 use mathlib.Core.Logic.{⊎-elim}
-use mathlib.Core.Option.{Option, none, some}
+use mathlib.Core.Option.{Option, none}
 use mathlib.Core.List.{List, [], _∷_}
-use mathlib.Core.Bool.{true, false, not}
+use mathlib.Core.Bool.{true, false}
 use Prim.Native.Nat.{ℕ, _+_, _*_, _/_, _%_, _^_, _<_}
 use native.Mathlib.Omega.{arith}
 use lib.Dec.{eqb}
@@ -29,7 +29,6 @@ use Rattle.image.proofs.Laws.Fine.{accepted-fine}
 use Rattle.image.proofs.Laws.Promise.{number-over, done-leaves, done-says}
 use Rattle.find.specs.Find.{patternOf, findPromise}
 use Rattle.find.specs.Book.{badBook, bookRefusals, bookOf, bookPromise}
-use Rattle.alter.specs.Patch.{patched}
 use Rattle.alter.specs.Alter.{broughtUp, alterRefusals, alterPromise, Calls, done, next}
 use Rattle.alter.proofs.Laws.Runs.{alter-accepted, patches, alter-keeps}
 use Rattle.alter.proofs.Laws.Board.{board-is}

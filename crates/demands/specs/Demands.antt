@@ -15,7 +15,7 @@ use Rattle.board.specs.Book.{lineFault, entry, answerIn}
 use Rattle.board.specs.declared.Fault.{Fault}
 use Rattle.board.specs.declared.Condition.{Condition}
 use Rattle.image.specs.Image.{lineCount, recordAt, boardOf}
-use Rattle.image.specs.Refusals.{firstRefusal, Accepted}
+use Rattle.image.specs.Refusals.{firstRefusal}
 use Rattle.image.specs.Promise.{numbers, Promise}
 use Rattle.image.specs.Check.{checkPromise}
 use Rattle.image.specs.declared.Refusal.{Refusal}

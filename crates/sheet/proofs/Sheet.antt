@@ -15,14 +15,13 @@ use Rattle.board.specs.Test.{differs, shows, first, find}
 use Rattle.board.specs.Book.{renewed}
 use Rattle.board.proofs.Lists.{same-is}
 use Rattle.image.specs.Refusals.{badField, firstBad, firstBadOutput, imageRefusals, firstRefusal}
-use Rattle.image.specs.Promise.{answer, unlessRefused, Promise}
+use Rattle.image.specs.Promise.{answer, unlessRefused}
 use Rattle.image.specs.Calls.{lineRefusals, faultRefusals}
 use Rattle.rows.specs.Rows.{rowsRefusals}
 use Rattle.rows.specs.Judge.{judgeRefusals}
-use Rattle.five.specs.Driven.{drivenOf}
 use Rattle.five.specs.Five.{fiveRefusals, fiveRow}
 use Rattle.find.specs.Book.{bookRefusals, bookOf}
-use Rattle.alter.specs.Patch.{patched, unfit}
+use Rattle.alter.specs.Patch.{unfit}
 use Rattle.alter.specs.Alter.{broughtUp, alterRefusals}
 use Rattle.sheet.specs.Sheet.{Question, says, leaves, Answers, Starred, sheet, Holds}
 

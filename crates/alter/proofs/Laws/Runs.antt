@@ -1,6 +1,6 @@
 -- Demand 3 on the call: an accepted image stays accepted and a right book is right after the call for the image after it, refused or
 -- accepted; and Check accepts an altered image with the same counts.
-use mathlib.Core.Path.{_≡_, refl, ap, _∙_}
+use mathlib.Core.Path.{_≡_, refl, _∙_}
 use mathlib.Core.Option.{Option, none, some}
 use mathlib.Core.List.{List, [], _∷_}
 use Prim.Native.Nat.{ℕ, _*_, _<_}

@@ -15,8 +15,5 @@ abbrev μ-loop : tie.MeasureT-loop
 pub bring-down-spec : {M : Type 1} → statement M
 bring-down-spec =
     tie.close
-    (tie.spec
-    Inv-loop
-    μ-loop
-    (search needs) (search needs) (search needs) (search needs) (search needs) (search needs) (λ c. search needs) (search needs)
+    (tie.spec Inv-loop μ-loop (search needs) (search needs) (search needs) (search needs) (search needs) (search needs) (λ c. search needs) (search needs)
     (search needs))

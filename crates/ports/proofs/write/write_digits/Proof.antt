@@ -14,7 +14,5 @@ abbrev μ-loop : tie.MeasureT-loop
 pub write-digits-spec : {M : Type 1} → statement M
 write-digits-spec =
     tie.close
-    (tie.spec
-    Inv-loop
-    μ-loop
-    (search needs) (search needs) (search needs) (search needs) (search needs) (search needs) (search needs) (search needs) (search needs))
+    (tie.spec Inv-loop μ-loop (search needs) (search needs) (search needs) (search needs) (search needs) (search needs) (search needs) (search needs)
+    (search needs))

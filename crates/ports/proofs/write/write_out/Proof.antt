@@ -9,4 +9,6 @@ slice-aggregate-write-all : tie.Need-slice-aggregate-write-all
 slice-aggregate-write-all c = simp length-take (omega arith)
 
 pub write-out-spec : {M : Type 1} → statement M
-write-out-spec = tie.close (tie.spec slice-aggregate-write-all (search needs) (search needs))
+write-out-spec =
+    tie.close
+    (tie.spec slice-aggregate-write-all (search needs) (search needs))

@@ -63,15 +63,5 @@ returns c =
 pub spell-spec : {M : Type 1} → statement M
 spell-spec =
     tie.close
-    (tie.spec
-    Inv-loop
-    μ-loop
-    (search needs) (search needs) (search needs)
-    shared-slice-read-put-number
-    put-number-requires
-    (search needs) (search needs) (search needs)
-    loop-again
-    (search needs) (search needs) (search needs) (search needs) (search needs)
-    loop-again-2
-    (search needs)
-    returns)
+    (tie.spec Inv-loop μ-loop (search needs) (search needs) (search needs) shared-slice-read-put-number put-number-requires (search needs) (search needs)
+    (search needs) loop-again (search needs) (search needs) (search needs) (search needs) (search needs) loop-again-2 (search needs) returns)

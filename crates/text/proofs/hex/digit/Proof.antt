@@ -11,4 +11,6 @@ returns-2 : tie.Need-returns-2
 returns-2 c = rw (le-ltb (c .before .args .d) 10 (c .if1 .left))
 
 pub digit-spec : {M : Type 1} → statement M
-digit-spec = tie.close (tie.spec (search needs) (search needs) returns returns-2)
+digit-spec =
+    tie.close
+    (tie.spec (search needs) (search needs) returns returns-2)

@@ -47,14 +47,5 @@ returns c =
 pub hex-text-spec : {M : Type 1} → statement M
 hex-text-spec =
     tie.close
-    (tie.spec
-    Inv-loop
-    μ-loop
-    (search needs) (search needs)
-    digit-requires
-    (search needs) (search needs) (search needs) (search needs) (search needs) (search needs)
-    slice-write-out-2
-    (search needs) (search needs)
-    loop-again
-    (search needs) (search needs)
-    returns)
+    (tie.spec Inv-loop μ-loop (search needs) (search needs) digit-requires (search needs) (search needs) (search needs) (search needs) (search needs)
+    (search needs) slice-write-out-2 (search needs) (search needs) loop-again (search needs) (search needs) returns)

@@ -48,14 +48,5 @@ returns c =
 pub numbers-text-spec : {M : Type 1} → statement M
 numbers-text-spec =
     tie.close
-    (tie.spec
-    Inv-loop
-    μ-loop
-    (search needs) (search needs) (search needs) (search needs)
-    cast-put-number
-    (search needs)
-    put-number-requires
-    (search needs) (search needs)
-    loop-again
-    (search needs)
-    returns)
+    (tie.spec Inv-loop μ-loop (search needs) (search needs) (search needs) (search needs) cast-put-number (search needs) put-number-requires (search needs)
+    (search needs) loop-again (search needs) returns)

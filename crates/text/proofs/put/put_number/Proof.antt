@@ -37,8 +37,4 @@ returns c =
 pub put-number-spec : {M : Type 1} → statement M
 put-number-spec =
     tie.close
-    (tie.spec
-    (search needs) (search needs) (search needs)
-    put-requires
-    (search needs)
-    returns)
+    (tie.spec (search needs) (search needs) (search needs) put-requires (search needs) returns)

@@ -6,33 +6,6 @@ use borrow.Author.Needs.{needs}
 use Rattle.words.proofs.command.values_of.Statement.{statement}
 use Rattle.words.proofs.command.values_of.Tie as tie
 
-next-start-requires : tie.Need-next-start-requires
-next-start-requires c κs = search needs
-
-next-start-requires-2 : tie.Need-next-start-requires-2
-next-start-requires-2 c κs = search needs
-
-next-start-requires-3 : tie.Need-next-start-requires-3
-next-start-requires-3 c κs = search needs
-
-last-start-requires : tie.Need-last-start-requires
-last-start-requires c κs = search needs
-
-tail-requires : tie.Need-tail-requires
-tail-requires c κs = search needs
-
-fault-of-requires : tie.Need-fault-of-requires
-fault-of-requires c κs = search needs
-
-number-at-requires : tie.Need-number-at-requires
-number-at-requires c κs = search needs
-
-number-at-requires-2 : tie.Need-number-at-requires-2
-number-at-requires-2 c κs = search needs
-
-number-at-requires-3 : tie.Need-number-at-requires-3
-number-at-requires-3 c κs = search needs
-
 returns : tie.Need-returns
 unfolding partsFrom
 returns c =
@@ -54,14 +27,5 @@ returns c =
 pub values-of-spec : {M : Type 1} → statement M
 values-of-spec =
     tie.close
-    (tie.spec
-    next-start-requires
-    next-start-requires-2
-    next-start-requires-3
-    last-start-requires
-    tail-requires
-    fault-of-requires
-    number-at-requires
-    number-at-requires-2
-    number-at-requires-3
-    returns)
+    (tie.spec (λ c κs. search needs) (λ c κs. search needs) (λ c κs. search needs) (λ c κs. search needs) (λ c κs. search needs) (λ c κs. search needs)
+    (λ c κs. search needs) (λ c κs. search needs) (λ c κs. search needs) returns)

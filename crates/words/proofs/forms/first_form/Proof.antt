@@ -21,12 +21,6 @@ loop-holds : tie.Need-loop-holds Inv-loop μ-loop
 unfolding partsFrom
 loop-holds c = (omega arith, omega arith, refl)
 
-part-at-requires : tie.Need-part-at-requires Inv-loop μ-loop
-part-at-requires c κs = search needs
-
-form-fit-requires : tie.Need-form-fit-requires Inv-loop μ-loop
-form-fit-requires c κs = search needs
-
 -- by how the line suits the form at `at`
 found : (c : tie.After-form-fit Inv-loop μ-loop)
     → let l = c .before .before .before .loop in
@@ -37,29 +31,11 @@ found c =
     let test = c .before .before in
     form-next _ _ _ _ _ (test .before .loop .inv .2) _ _ (test .loop-test .taken) (c .before .part-at .ensures) (c .form-fit .ensures)
 
-enum-told : tie.Need-enum-told Inv-loop μ-loop
-enum-told c = search needs
-
 returns : tie.Need-returns Inv-loop μ-loop
 returns c = sym (rw (c .enum-told .given .1) at (found (c .before .before)))
 
-enum-told-2 : tie.Need-enum-told-2 Inv-loop μ-loop
-enum-told-2 c = search needs
-
-enum-known-why : tie.Need-enum-known-why Inv-loop μ-loop
-enum-known-why c = search needs
-
 returns-2 : tie.Need-returns-2 Inv-loop μ-loop
 returns-2 c = sym (rw (c .before .why .given .1) at (found (c .before .before .before)))
-
-next-start-requires : tie.Need-next-start-requires Inv-loop μ-loop
-next-start-requires c κs = search needs
-
-add-k : tie.Need-add-k Inv-loop μ-loop
-add-k c = search needs
-
-loop-less : tie.Need-loop-less Inv-loop μ-loop
-loop-less c = search needs
 
 loop-again : tie.Need-loop-again Inv-loop μ-loop
 loop-again c =
@@ -72,19 +48,5 @@ returns-3 c = form-none _ _ _ _ _ (c .before .loop .inv .2) (c .loop-test .left)
 pub first-form-spec : {M : Type 1} → statement M
 first-form-spec =
     tie.close
-    (tie.spec
-    Inv-loop
-    μ-loop
-    loop-holds
-    part-at-requires
-    form-fit-requires
-    enum-told
-    returns
-    enum-told-2
-    enum-known-why
-    returns-2
-    next-start-requires
-    add-k
-    loop-less
-    loop-again
-    returns-3)
+    (tie.spec Inv-loop μ-loop loop-holds (λ c κs. search needs) (λ c κs. search needs) (λ c. search needs) returns (λ c. search needs) (λ c. search needs)
+    returns-2 (λ c κs. search needs) (λ c. search needs) (λ c. search needs) loop-again returns-3)

@@ -22,23 +22,11 @@ loop-holds : tie.Need-loop-holds Inv-loop μ-loop
 unfolding partsFrom
 loop-holds c = refl
 
-part-at-requires : tie.Need-part-at-requires Inv-loop μ-loop
-part-at-requires c κs = search needs
-
-either-requires : tie.Need-either-requires Inv-loop μ-loop
-either-requires c κs = search needs
-
 returns : tie.Need-returns Inv-loop μ-loop
 returns c =
     let asked = c .before .before in
     let test = asked .before in
     c .either .ensures ∙ sym (fit-lack _ _ _ _ _ (test .before .loop .inv) _ (test .loop-test .taken) (asked .part-at .ensures) (c .before .if1 .taken))
-
-part-at-requires-2 : tie.Need-part-at-requires-2 Inv-loop μ-loop
-part-at-requires-2 c κs = search needs
-
-word-fit-requires : tie.Need-word-fit-requires Inv-loop μ-loop
-word-fit-requires c κs = search needs
 
 -- by how the word at `at` suits the form's word at `f`
 said : (c : tie.After-word-fit Inv-loop μ-loop)
@@ -51,20 +39,8 @@ said c =
     let test = more .before .before in
     fit-next _ _ _ _ _ (test .before .loop .inv) _ (test .loop-test .taken) (more .before .part-at .ensures) _ _ (more .if1 .left) (c .before .part-at2 .ensures) (c .word-fit .ensures)
 
-is-fit-requires : tie.Need-is-fit-requires Inv-loop μ-loop
-is-fit-requires c κs = search needs
-
 returns-2 : tie.Need-returns-2 Inv-loop μ-loop
 returns-2 c = sym (rw (sym (c .before .is-fit .ensures) ∙ not-true _ (c .if2 .taken)) at (said (c .before .before)))
-
-next-start-requires : tie.Need-next-start-requires Inv-loop μ-loop
-next-start-requires c κs = search needs
-
-next-start-requires-2 : tie.Need-next-start-requires-2 Inv-loop μ-loop
-next-start-requires-2 c κs = search needs
-
-loop-less : tie.Need-loop-less Inv-loop μ-loop
-loop-less c = search needs
 
 loop-again : tie.Need-loop-again Inv-loop μ-loop
 loop-again c =
@@ -72,29 +48,11 @@ loop-again c =
     rw (c .before .next-start .ensures .is, c .next-start2 .ensures .is)
     (rw (sym (fits .before .is-fit .ensures) ∙ not-false _ (fits .if2 .left)) at (said (fits .before .before)))
 
-either-requires-2 : tie.Need-either-requires-2 Inv-loop μ-loop
-either-requires-2 c κs = search needs
-
 returns-3 : tie.Need-returns-3 Inv-loop μ-loop
 returns-3 c = c .either2 .ensures ∙ fit-end _ _ _ _ _ (c .before .before .loop .inv) (c .before .loop-test .left)
 
 pub form-fit-spec : {M : Type 1} → statement M
 form-fit-spec =
     tie.close
-    (tie.spec
-    Inv-loop
-    μ-loop
-    loop-holds
-    part-at-requires
-    either-requires
-    returns
-    part-at-requires-2
-    word-fit-requires
-    is-fit-requires
-    returns-2
-    next-start-requires
-    next-start-requires-2
-    loop-less
-    loop-again
-    either-requires-2
-    returns-3)
+    (tie.spec Inv-loop μ-loop loop-holds (λ c κs. search needs) (λ c κs. search needs) returns (λ c κs. search needs) (λ c κs. search needs)
+    (λ c κs. search needs) returns-2 (λ c κs. search needs) (λ c κs. search needs) (λ c. search needs) loop-again (λ c κs. search needs) returns-3)

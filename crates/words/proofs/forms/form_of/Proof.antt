@@ -9,16 +9,11 @@ use Rattle.words.proofs.forms.form_of.Tie as tie
 returns : tie.Need-returns
 returns c = rw (eq-eqb _ _ (c .if1 .taken))
 
-slice-aggregate-first-form : tie.Need-slice-aggregate-first-form
-slice-aggregate-first-form c = search needs
-
-first-form-requires : tie.Need-first-form-requires
-first-form-requires c κs = search needs
-
 returns-2 : tie.Need-returns-2
 unfolding parts table
 returns-2 c = rw (ne-eqb _ _ (c .before .before .if1 .left)) (c .first-form .ensures)
 
 pub form-of-spec : {M : Type 1} → statement M
 form-of-spec =
-    tie.close (tie.spec returns slice-aggregate-first-form first-form-requires returns-2)
+    tie.close
+    (tie.spec returns (λ c. search needs) (λ c κs. search needs) returns-2)

@@ -5,39 +5,6 @@ use borrow.Author.Needs.{needs}
 use Rattle.words.proofs.forms.word_fit.Statement.{statement}
 use Rattle.words.proofs.forms.word_fit.Tie as tie
 
-letter-requires : tie.Need-letter-requires
-letter-requires c κs = search needs
-
-number-of-requires : tie.Need-number-of-requires
-number-of-requires c κs = search needs
-
-either-requires : tie.Need-either-requires
-either-requires c κs = search needs
-
-fault-of-requires : tie.Need-fault-of-requires
-fault-of-requires c κs = search needs
-
-either-requires-2 : tie.Need-either-requires-2
-either-requires-2 c κs = search needs
-
-is-hex-requires : tie.Need-is-hex-requires
-is-hex-requires c κs = search needs
-
-either-requires-3 : tie.Need-either-requires-3
-either-requires-3 c κs = search needs
-
-is-all-requires : tie.Need-is-all-requires
-is-all-requires c κs = search needs
-
-either-requires-4 : tie.Need-either-requires-4
-either-requires-4 c κs = search needs
-
-is-same-requires : tie.Need-is-same-requires
-is-same-requires c κs = search needs
-
-either-requires-5 : tie.Need-either-requires-5
-either-requires-5 c κs = search needs
-
 returns : tie.Need-returns
 unfolding wordFit
 returns c = let at = c .before .before in rw (← (at .before .letter .ensures), at .match .keys1, c .either .ensures, c .before .number-of .ensures)
@@ -64,20 +31,6 @@ returns-5 c =
 pub word-fit-spec : {M : Type 1} → statement M
 word-fit-spec =
     tie.close
-    (tie.spec
-    letter-requires
-    number-of-requires
-    either-requires
-    fault-of-requires
-    either-requires-2
-    is-hex-requires
-    either-requires-3
-    is-all-requires
-    either-requires-4
-    is-same-requires
-    either-requires-5
-    returns
-    returns-2
-    returns-3
-    returns-4
-    returns-5)
+    (tie.spec (λ c κs. search needs) (λ c κs. search needs) (λ c κs. search needs) (λ c κs. search needs) (λ c κs. search needs) (λ c κs. search needs)
+    (λ c κs. search needs) (λ c κs. search needs) (λ c κs. search needs) (λ c κs. search needs) (λ c κs. search needs) returns returns-2 returns-3
+    returns-4 returns-5)

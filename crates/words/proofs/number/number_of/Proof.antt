@@ -17,23 +17,11 @@ Inv-loop word value₀ i₀ value i = (i ≤ length word) × (value < 2 ^ 64) ×
 abbrev μ-loop : tie.MeasureT-loop
 μ-loop word value₀ i₀ value i = length word - i
 
-is-all-requires : tie.Need-is-all-requires Inv-loop μ-loop
-is-all-requires c κs = search needs
-
 returns : tie.Need-returns Inv-loop μ-loop
 returns c = no-digits (c .before .before .before .args .word .now) (sym (c .before .is-all .ensures) ∙ not-true _ (c .if1 .taken))
 
 loop-holds : tie.Need-loop-holds Inv-loop μ-loop
 loop-holds c = (omega arith, lit< tt, refl)
-
-shared-slice-read-digit : tie.Need-shared-slice-read-digit Inv-loop μ-loop
-shared-slice-read-digit c = search needs
-
-digit-requires : tie.Need-digit-requires Inv-loop μ-loop
-digit-requires c κs = search needs
-
-sub-if2 : tie.Need-sub-if2 Inv-loop μ-loop
-sub-if2 c = search needs
 
 returns-2 : tie.Need-returns-2 Inv-loop μ-loop
 returns-2 c =
@@ -42,18 +30,6 @@ returns-2 c =
     let w = test .before .before .before .before .before .args .word .now in
     let all = sym (test .before .before .before .is-all .ensures) ∙ not-false _ (test .before .before .if1 .left) in
     too-wide w (l .i) (l .value) (l .inv .2) (c .before .digit .result) (test .loop-test .taken) (c .before .digit .ensures .0) all (omega arith)
-
-mul-value : tie.Need-mul-value Inv-loop μ-loop
-mul-value c = search needs
-
-add-value : tie.Need-add-value Inv-loop μ-loop
-add-value c = search needs
-
-add-i : tie.Need-add-i Inv-loop μ-loop
-add-i c = search needs
-
-loop-less : tie.Need-loop-less Inv-loop μ-loop
-loop-less c = search needs
 
 loop-again : tie.Need-loop-again Inv-loop μ-loop
 loop-again c =
@@ -72,19 +48,5 @@ returns-3 c =
 pub number-of-spec : {M : Type 1} → statement M
 number-of-spec =
     tie.close
-    (tie.spec
-    Inv-loop
-    μ-loop
-    is-all-requires
-    returns
-    loop-holds
-    shared-slice-read-digit
-    digit-requires
-    sub-if2
-    returns-2
-    mul-value
-    add-value
-    add-i
-    loop-less
-    loop-again
-    returns-3)
+    (tie.spec Inv-loop μ-loop (λ c κs. search needs) returns loop-holds (λ c. search needs) (λ c κs. search needs) (λ c. search needs) returns-2
+    (λ c. search needs) (λ c. search needs) (λ c. search needs) (λ c. search needs) loop-again returns-3)

@@ -6,9 +6,6 @@ use borrow.Author.Needs.{needs}
 use Rattle.words.proofs.parts.first_part.Statement.{statement}
 use Rattle.words.proofs.parts.first_part.Tie as tie
 
-find-requires : tie.Need-find-requires
-find-requires c κs = search needs
-
 slice-aggregate-result : tie.Need-slice-aggregate-result
 slice-aggregate-result c = sym (length-take-le _ _ (c .before .find .ensures .1))
 
@@ -16,4 +13,6 @@ returns : tie.Need-returns
 returns c = found-part _ _ _ (c .before .find .ensures .0)
 
 pub first-part-spec : {M : Type 1} → statement M
-first-part-spec = tie.close (tie.spec find-requires slice-aggregate-result returns)
+first-part-spec =
+    tie.close
+    (tie.spec (λ c κs. search needs) slice-aggregate-result returns)

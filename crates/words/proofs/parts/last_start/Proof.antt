@@ -20,9 +20,6 @@ loop-holds : tie.Need-loop-holds Inv-loop μ-loop
 unfolding partsFrom
 loop-holds c = (omega arith, refl)
 
-next-start-requires : tie.Need-next-start-requires Inv-loop μ-loop
-next-start-requires c κs = search needs
-
 returns : tie.Need-returns Inv-loop μ-loop
 returns c =
     let at-loop = c .before .before in
@@ -30,9 +27,6 @@ returns c =
     let none = sym (c .before .next-start .ensures .is) ∙ from-past _ _ _ (c .if1 .taken) in
     let is = last-alone _ _ _ (l .inv .0) none ∙ sym (l .inv .1) in
     (omega (arith, l .inv .0, simp length-drop at (ap length is)), is)
-
-loop-less : tie.Need-loop-less Inv-loop μ-loop
-loop-less c = search needs
 
 loop-again : tie.Need-loop-again Inv-loop μ-loop
 loop-again c =
@@ -42,4 +36,4 @@ loop-again c =
 pub last-start-spec : {M : Type 1} → statement M
 last-start-spec =
     tie.close
-    (tie.spec Inv-loop μ-loop loop-holds next-start-requires returns loop-less loop-again)
+    (tie.spec Inv-loop μ-loop loop-holds (λ c κs. search needs) returns (λ c. search needs) loop-again)

@@ -4,14 +4,10 @@ use borrow.Author.Needs.{needs}
 use Rattle.words.proofs.parts.part_at.Statement.{statement}
 use Rattle.words.proofs.parts.part_at.Tie as tie
 
-tail-requires : tie.Need-tail-requires
-tail-requires c κs = search needs
-
-first-part-requires : tie.Need-first-part-requires
-first-part-requires c κs = search needs
-
 returns : tie.Need-returns
 returns c = rw (c .first-part .ensures, c .before .tail .ensures) (part-from _ _ _)
 
 pub part-at-spec : {M : Type 1} → statement M
-part-at-spec = tie.close (tie.spec tail-requires first-part-requires returns)
+part-at-spec =
+    tie.close
+    (tie.spec (λ c κs. search needs) (λ c κs. search needs) returns)
