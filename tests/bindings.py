@@ -50,7 +50,7 @@ alter H 3: 0 8
 alter H 0: 10
 """
 RUST_EXAMPLE = """\
-check S: Good { lines: 12, inputs: 4, outputs: 1 }
+check S: Good(Counts { lines: 12, inputs: 4, outputs: 1 })
 find S 4/1: Pattern(6)
 judge S 7 4/1: Yes
 rows S 6 4/1: Done [0, 1, 1, 0, 0, 1, 1, 0, 0, 0, 0, 0] [0, 1, 1, 0, 1, 0, 0, 0, 0, 0, 0, 1]

@@ -1,11 +1,11 @@
 #!/usr/bin/env python3
-"""Says whether docs/PROMISES.md and the sources agree on the public calls.
+"""Says whether docs/PROMISES.md and the sources agree on the public calls, on what is inner, and on what the proofs rest on.
 
-A public call is a `pub fn` of a library's src/lib.rt whose contract is a promise, a record named ..Owes. The table of calls in
-docs/PROMISES.md must have a row for each; the call must have no `requires` and an `ensures` of that record alone; the record and the
-theorem that pins it must stand where the row says; and the row must name at least two must-fail edits of the call's crate, all there.
-An exported call must have no `requires`, an `ensures` of `Exported` alone, and a row with the theorem that pins it.
-Every edit of every crate must be named in PROMISES.md.
+Every `pub fn` of a library is accounted for. It is a call, which has a row in the table of calls: then it has no `requires`, its `ensures`
+is `Owes` of its promise alone (or Show's `ShowOwes`), the promise and the law that pins it stand where the row says, the front page lists it,
+and the row names at least two must-fail edits of its crate. Or it is exported: then it has no `requires` and ensures `Exported` alone. Or it
+is inner: then it stands under a module path that PROMISES.md names as inner. A module that no other crate uses is private.
+Every must-fail edit of every crate is named in PROMISES.md, and each call has one in its own lib.rt.
 """
 import pathlib
 import re
@@ -13,76 +13,96 @@ import sys
 
 ROOT = pathlib.Path(__file__).resolve().parent.parent
 CRATES = ROOT / "crates"
-HEADER = re.compile(r"^pub fn (\w+)(.*?)^\{", re.M | re.S)
-EXPORTED = re.compile(r'^pub extern "C" fn (\w+)(.*?)^\{', re.M | re.S)
+FUNCTION = re.compile(r'^pub (extern "C" )?fn (\w+)(.*?)^\{', re.M | re.S)
 ROW = re.compile(r"^\| \*\*(.+?)\*\* \|(.*)\|$", re.M)
+INNER = re.compile(r"^- inner: (.*)$", re.M)
 
 
-def public_calls():
-    """The header of each public call, by 'crate::function'."""
-    calls = {}
-    for source in sorted(CRATES.glob("*/src/lib.rt")):
-        for name, header in HEADER.findall(source.read_text()):
-            if "Owes" in header:
-                calls[f"{source.parts[-3]}::{name}"] = header
-    return calls
+def libraries():
+    """The crates that are libraries, in the order of crates.txt."""
+    names = [line.split(":")[0] for line in (ROOT / "crates.txt").read_text().splitlines() if ":" in line]
+    return [name for name in names if (CRATES / name / "src/lib.rt").exists()]
 
 
-def promised(header):
-    """The records that a contract ensures."""
-    return re.findall(r"ensures \{ λ \w+\. ⌜ (\w+)", header)
+def public_functions():
+    """Each public function of each library: its module path, name, whether it is exported, and its header."""
+    for crate in libraries():
+        for source in sorted((CRATES / crate / "src").glob("*.rt")):
+            path = crate if source.stem == "lib" else f"{crate}::{source.stem}"
+            for exported, name, header in FUNCTION.findall(source.read_text()):
+                yield path, name, bool(exported), header
 
 
-def faults_of(call, header, cells):
+def ensured(header):
+    """What a contract ensures: the word, and where it is Owes or Exported the promise."""
+    return re.findall(r"ensures \{ λ \w+\. ⌜ (\w+)(?: \((\w+))?", header)
+
+
+def call_faults(path, name, header, cells, front):
     """What is wrong with a call's contract, or with its row."""
-    crate, name = call.split("::")
-    _, _, record, pinned, edits = cells
-    record_name, record_file = re.search(r"`(\w+)`, (\S+)", record).groups()
-    theorem, theorem_file = re.search(r"`([\w-]+)`, (\S+)", pinned).groups()
+    call = f"{path}::{name}"
+    _, _, promise, pinned, edits = cells
+    promise_name, promise_file = re.search(r"`(\w+)`, (\S+)", promise).groups()
+    law, law_file = re.search(r"`([\w-]+)`, (\S+)", pinned).groups()
     if "requires" in header:
         yield f"{call} has a requires"
-    if promised(header) != [record_name]:
-        yield f"{call} does not ensure {record_name} alone"
-    if not re.search(rf"^(?:abbrev )?pub (?:record )?{record_name}\b", (CRATES / record_file).read_text(), re.M):
-        yield f"{record_name} does not stand in {record_file}"
-    if not re.search(rf"^ *pub {theorem} :", (CRATES / theorem_file).read_text(), re.M):
-        yield f"{theorem} does not stand in {theorem_file}"
+    if ensured(header) not in ([("Owes", promise_name)], [(promise_name, "now")]):
+        yield f"{call} does not ensure what {promise_name} owes, alone"
+    if promise_name != "ShowOwes" and f"Call ({promise_name} " not in front:
+        yield f"{promise_name} is not on the front page"
+    if not re.search(rf"^(?:abbrev )?pub (?:record )?{promise_name}\b", (CRATES / promise_file).read_text(), re.M):
+        yield f"{promise_name} does not stand in {promise_file}"
+    if not re.search(rf"^ *pub {law} :", (CRATES / law_file).read_text(), re.M):
+        yield f"{law} does not stand in {law_file}"
     named = re.findall(r"`(\w+)`", edits)
     if len(named) < 2:
         yield f"{call} names fewer than two must-fail edits"
     for edit in named:
-        if not (CRATES / crate / "must-fail" / f"{edit}.edit").exists():
-            yield f"{crate} has no edit {edit}"
+        if not (CRATES / path / "must-fail" / f"{edit}.edit").exists():
+            yield f"{path} has no edit {edit}"
 
 
-def exported_faults(text):
-    """What is wrong with the exported calls, or with their rows."""
-    pinned = (CRATES / "exports/proofs/Laws/Pinned.antt").read_text()
-    for name, header in EXPORTED.findall((CRATES / "exports/src/lib.rt").read_text()):
-        row = re.search(rf"^\| `{name}` \|.*\| `([\w-]+)` \|$", text, re.M)
-        if "requires" in header or promised(header) != ["Exported"]:
-            yield f"{name} does not ensure Exported alone, or has a requires"
-        if not row or not re.search(rf"^ *pub {row.group(1)} :", pinned, re.M):
-            yield f"{name} has no row, or is not pinned"
+def module_faults():
+    """Public modules that no other crate uses."""
+    sources = {crate: "\n".join(s.read_text() for s in (CRATES / crate / "src").glob("*.rt")) for crate in
+               [p.name for p in CRATES.iterdir() if (p / "src").is_dir()]}
+    for crate in libraries():
+        for module in re.findall(r"^pub mod (\w+);", (CRATES / crate / "src/lib.rt").read_text(), re.M):
+            if not any(f"{crate}::{module}::" in text for other, text in sources.items() if other != crate):
+                yield f"{crate}::{module} is public, and no other crate uses it"
 
 
 def main():
     """Says what is wrong, or how many calls there are."""
     text = (ROOT / "docs" / "PROMISES.md").read_text()
+    front = (CRATES / "demands/specs/Demands.antt").read_text()
     rows = {}
     for _, rest in ROW.findall(text):
         cells = [cell.strip() for cell in rest.split("|")]
         rows[cells[0].strip("`")] = cells
-    calls = public_calls()
-    wrong = [f"{call} has no row" for call in calls if call not in rows]
+    inner = {path for line in INNER.findall(text) for path in re.findall(r"`([\w:]+)`", line)}
+    wrong, calls, used = [], set(), set()
+    for path, name, exported, header in public_functions():
+        call = f"{path}::{name}"
+        if exported:
+            if "requires" in header or [word for word, _ in ensured(header)] != ["Exported"]:
+                wrong.append(f"{name} does not ensure Exported alone, or has a requires")
+            if f"| `{name}` |" not in text:
+                wrong.append(f"{name} has no row")
+        elif call in rows:
+            calls.add(call)
+            wrong += call_faults(path, name, header, rows[call], front)
+        elif path in inner:
+            used.add(path)
+        else:
+            wrong.append(f"{call} is neither a call nor inner")
     wrong += [f"{call} is no public call" for call in rows if call not in calls]
-    for call in sorted(calls.keys() & rows.keys()):
-        wrong += faults_of(call, calls[call], rows[call])
-    wrong += exported_faults(text)
+    wrong += [f"{path} is named as inner and has no public function" for path in sorted(inner - used)]
+    wrong += module_faults()
     for edit in sorted(CRATES.glob("*/must-fail/*.edit")):
         if f"`{edit.stem}`" not in text:
             wrong.append(f"{edit.relative_to(ROOT)} is not in docs/PROMISES.md")
-    print("\n".join(wrong) if wrong else f"calls: {len(calls)}, each with its promise, none with a requires")
+    print("\n".join(wrong) if wrong else f"calls: {len(calls)}, each with its promise, none with a requires; the rest is inner")
     return 1 if wrong else 0
 
 

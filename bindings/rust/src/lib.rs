@@ -13,6 +13,13 @@ pub type Entry = u32;
 /// The entry for none.
 pub const NONE: Entry = 4_294_967_295;
 
+/// A fault: one line held at 0 or at 1 for everything that reads it.
+#[derive(Clone, Copy, Debug, PartialEq, Eq)]
+pub struct Fault {
+    pub line: usize,
+    pub stuck: u8,
+}
+
 /// Why the bench says no, by document 01's table.
 #[derive(Clone, Copy, Debug, PartialEq, Eq)]
 pub enum Refusal {
@@ -29,10 +36,18 @@ pub enum Refusal {
     Row,
 }
 
+/// The line, input and output counts of an image.
+#[derive(Clone, Copy, Debug, PartialEq, Eq)]
+pub struct Counts {
+    pub lines: usize,
+    pub inputs: usize,
+    pub outputs: usize,
+}
+
 /// What Check answers.
 #[derive(Clone, Copy, Debug, PartialEq, Eq)]
 pub enum Checked {
-    Good { lines: usize, inputs: usize, outputs: usize },
+    Good(Counts),
     Refused(Refusal),
 }
 
@@ -96,7 +111,7 @@ fn heard(a: Answer) -> Result<[u64; 3], Refusal> {
 pub fn check(img: &[u8]) -> Checked {
     match heard(unsafe { raw::fortizembo_check(img.as_ptr(), img.len()) }) {
         Ok([lines, inputs, outputs]) => {
-            Checked::Good { lines: lines as usize, inputs: inputs as usize, outputs: outputs as usize }
+            Checked::Good(Counts { lines: lines as usize, inputs: inputs as usize, outputs: outputs as usize })
         }
         Err(r) => Checked::Refused(r),
     }
@@ -110,16 +125,16 @@ fn filled(a: Answer) -> Filled {
 }
 
 /// Rows: fills one row with the good values of all lines and one with the faulty values.
-pub fn rows(img: &[u8], pattern: u64, line: usize, stuck: u8, good: &mut [u8], faulty: &mut [u8]) -> Filled {
-    let (g, f) = (good.as_mut_ptr(), faulty.as_mut_ptr());
+pub fn rows(img: &[u8], pattern: u64, fault: Fault, good: &mut [u8], faulty: &mut [u8]) -> Filled {
+    let (g, f, Fault { line, stuck }) = (good.as_mut_ptr(), faulty.as_mut_ptr(), fault);
     filled(unsafe {
         raw::fortizembo_rows(img.as_ptr(), img.len(), pattern, line, stuck, g, good.len(), f, faulty.len())
     })
 }
 
 /// Judge: whether the pattern shows the fault.
-pub fn judge(img: &[u8], pattern: u64, line: usize, stuck: u8) -> Judged {
-    match heard(unsafe { raw::fortizembo_judge(img.as_ptr(), img.len(), pattern, line, stuck) }) {
+pub fn judge(img: &[u8], pattern: u64, fault: Fault) -> Judged {
+    match heard(unsafe { raw::fortizembo_judge(img.as_ptr(), img.len(), pattern, fault.line, fault.stuck) }) {
         Ok([0, ..]) => Judged::No,
         Ok(_) => Judged::Yes,
         Err(r) => Judged::Refused(r),
@@ -140,8 +155,8 @@ pub fn show<'a>(good: &'a [u8], faulty: &'a [u8], wants_faulty: bool, start: usi
 }
 
 /// Five values: fills the row for a partial pattern.
-pub fn five(img: &[u8], named: u64, values: u64, line: usize, stuck: u8, row: &mut [u8]) -> Driven {
-    let lent = (row.as_mut_ptr(), row.len());
+pub fn five(img: &[u8], named: u64, values: u64, fault: Fault, row: &mut [u8]) -> Driven {
+    let (lent, Fault { line, stuck }) = ((row.as_mut_ptr(), row.len()), fault);
     match heard(unsafe { raw::fortizembo_five(img.as_ptr(), img.len(), named, values, line, stuck, lent.0, lent.1) }) {
         Ok([n, ..]) => Driven::Count(n as usize),
         Err(r) => Driven::Refused(r),
@@ -149,8 +164,8 @@ pub fn five(img: &[u8], named: u64, values: u64, line: usize, stuck: u8, row: &m
 }
 
 /// Find: the smallest pattern that shows the fault.
-pub fn find(img: &[u8], line: usize, stuck: u8) -> Found {
-    let a = unsafe { raw::fortizembo_find(img.as_ptr(), img.len(), line, stuck) };
+pub fn find(img: &[u8], fault: Fault) -> Found {
+    let a = unsafe { raw::fortizembo_find(img.as_ptr(), img.len(), fault.line, fault.stuck) };
     match heard(a) {
         Ok(_) if a.values == 0 => Found::Nothing,
         Ok([pattern, ..]) => Found::Pattern(pattern),
