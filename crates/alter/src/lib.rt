@@ -1,7 +1,7 @@
 // One gate altered: the record is put in the image, and the touched entries of the book are worked out afresh. Alter.
-pub mod marks;
-pub mod put;
-pub mod renew;
+mod marks;
+mod put;
+mod renew;
 
 use find::Counted;
 use find::entries::then_book;

@@ -49,7 +49,7 @@ fn fault_at(k: usize) -> Condition
 }
 
 // The number in a book for an answer.
-pub fn entry_of(a: Answer) -> Entry
+fn entry_of(a: Answer) -> Entry
     ensures { λ r. ⌜ r ≡ entry (answered a) ⌝ }
 {
     match a {

@@ -1,7 +1,7 @@
 // The smallest pattern that shows a fault, and the book of them all: Find and Book.
 pub mod entries;
 pub mod said;
-pub mod search;
+mod search;
 
 use board::Fault;
 use board::having;

@@ -1,10 +1,10 @@
 // Roth's five values: the row of a fault under a partial pattern, and how many output lines hold D or D-bar.
-pub mod count;
-pub mod fill;
-pub mod line;
-pub mod partial;
+mod count;
+mod fill;
+mod line;
+mod partial;
 pub mod said;
-pub mod table;
+mod table;
 
 use board::Fault;
 use board::having;
