@@ -8,7 +8,7 @@ ghost use Rattle.image.specs.Image.{longestImage};
 ghost use Rattle.report.specs.Book.{programLines, Tail};
 
 // How many bytes a trailer has.
-const TRAILER: usize = 12;
+pub const TRAILER: usize = 12;
 
 // Room for a trailer.
 fn blank_trailer() -> [u8; TRAILER]
