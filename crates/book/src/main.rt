@@ -13,7 +13,7 @@ use report::input::end_with_tail;
 use report::input::keep_tail;
 use text::line::blank_line;
 ghost use mathlib.Core.Path.{_≡_};
-ghost use Prim.Native.Nat.{_+_, _*_, _≤_};
+ghost use Prim.Native.Nat.{_+_, _*_, _≤_, _<_};
 ghost use lib.ListN.{length};
 ghost use Rattle.board.specs.Limits.{mostLines};
 ghost use Rattle.board.specs.Book.{found as foundIn};
@@ -86,17 +86,23 @@ fn read_on(buf: &mut [u8])
     }
 }
 
-// Of an input longer than any good image the last 12 bytes alone decide the text.
+// Writes the text of an input that begins with these bytes and is longer than any good image: its last 12 bytes alone decide it.
+fn write_long(img: &mut [u8])
+    requires { ⌜ longestImage < length (now img) ⌝ }
+{
+    let mut buf = io::large_buffer();
+    begin_tail(img, &mut buf);
+    read_on(&mut buf);
+    end_with_tail(&buf, img);
+    write_text(img);
+}
+
 fn main() {
     let mut img = blank_image();
     let n = io::read_full(STDIN_FILENO, &mut img);
     if n <= LONGEST_IMAGE {
         write_text(&img[..n]);
-        return;
+    } else {
+        write_long(&mut img[..n]);
     }
-    let mut buf = io::large_buffer();
-    begin_tail(&img, &mut buf);
-    read_on(&mut buf);
-    end_with_tail(&buf, &mut img);
-    write_text(&img);
 }
