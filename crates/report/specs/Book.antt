@@ -12,7 +12,7 @@ use Rattle.image.specs.Check.{checkPromise}
 use Rattle.image.specs.declared.Refusal.{Refusal}
 use Rattle.find.specs.Book.{bookOf}
 use Rattle.text.specs.Text.{form}
-use Rattle.report.specs.Lines.{checkedLine}
+use Rattle.report.specs.Lines.{checkedLine, countedLine}
 use Rattle.report.specs.declared.book.Rest.{Rest}
 
 -- 1/0 0, or 1/1 none
@@ -29,9 +29,9 @@ abbrev pub entryLines : ℕ → List ℕ → List (List ℕ)
 entryLines k [] = []
 entryLines k (e ∷ es) = entryLine k e ∷ entryLines (suc k) es
 
--- found 2 of 6: how many entries are not none, counted from them, of how many
+-- found 2 of 6, the line of Book's answer: how many entries are not none, counted from them, of how many
 abbrev pub totalLine : List ℕ → List ℕ
-totalLine book = form "found # of #\n" (found book ∷ length book ∷ [])
+totalLine book = countedLine (length book) (0 ∷ found book ∷ [])
 
 -- what follows the first line: the book's lines in its order and the total, or nothing where the image is refused
 abbrev pub linesAfter : Option Refusal → List ℕ → List (List ℕ)

@@ -1,5 +1,6 @@
 // The text that the program `book` writes, line by line.
 use crate::lines::answer_line;
+use crate::lines::counted_line;
 use find::Counted;
 use image::Checked;
 use image::asked::check_image;
@@ -7,6 +8,7 @@ use image::check;
 use image::limits::Entry;
 use image::limits::NONE;
 use image::said::checked;
+use image::said::with_one;
 use text::form::spell;
 ghost use mathlib.Core.Path.{_≡_};
 ghost use mathlib.Core.Option.{none};
@@ -77,5 +79,5 @@ pub fn later_line(book: &[Entry], found: usize, k: usize, out: &mut [u8]) -> usi
     if k < book.len() {
         return entry_line(k, book[k], out);
     }
-    spell(b"found # of #\n", &[found as u64, book.len() as u64], out)
+    counted_line(with_one(0, found as u64), book.len(), out)
 }

@@ -1,7 +1,7 @@
 -- `report::book::later_line` meets its contract: entry k's line is line k, and the total's the one after them.
 use mathlib.Core.Path.{_≡_}
-use native.Mathlib.Omega.{arith}
 use Prim.Native.Nat.{_+_}
+use native.Mathlib.Omega.{arith}
 use lib.ListN.{length}
 use Rattle.report.proofs.Laws.Book.{entry-at, total-at}
 use borrow.Author.Needs.{needs}
@@ -19,13 +19,13 @@ returns c =
 returns-2 : tie.Need-returns-2
 returns-2 c =
     let written = c .before .before in
-    let past = written .before .before .before .before in
-    let start = past .before .before .before in
+    let said = written .before .before in
+    let start = said .before .before .before .before in
     let all : start .args .k ≡ length (start .args .book .now) = omega arith in
-    rw (all, total-at (start .args .book .now), ← (start .pre .2)) (written .spell .ensures)
+    rw (all, total-at (start .args .book .now), ← (start .pre .2), ← (said .with-one .ensures .back)) (written .counted-line .ensures)
 
 pub later-line-spec : {M : Type 1} → statement M
 later-line-spec =
     tie.close
-    (tie.spec (λ c. search needs) (λ c. search needs) (λ c κs. search needs) (λ c. search needs) returns (λ c. search needs) (λ c. search needs)
-    (λ c κs. search needs) (λ c. search needs) returns-2)
+    (tie.spec (λ c. search needs) (λ c. search needs) (λ c κs. search needs) (λ c. search needs) returns (λ c κs. search needs) (λ c κs. search needs)
+    (λ c. search needs) returns-2)
