@@ -22,7 +22,7 @@ returns-2 c =
     let said = written .before .before in
     let start = said .before .before .before .before in
     let all : start .args .k ≡ length (start .args .book .now) = omega arith in
-    rw (all, total-at (start .args .book .now), ← (start .pre .2), ← (said .with-one .ensures .back)) (written .counted-line .ensures)
+    rw (all, total-at (start .args .book .now), ← (start .pre .2)) (rw (said .with-one .ensures .back) at (written .counted-line .ensures))
 
 pub later-line-spec : {M : Type 1} → statement M
 later-line-spec =
