@@ -1,24 +1,41 @@
-// Reads an image from standard input and writes its book as text, or the one line of its refusal.
-use image::Checked;
-use image::check;
+// Reads an image from standard input and writes its book as text, or the one line of its refusal: `programLines` of `report`.
+use image::limits::Entry;
+use image::limits::LONGEST_IMAGE;
+use image::limits::MOST_LINES;
 use libc::STDIN_FILENO;
 use libc::STDOUT_FILENO;
-use report::entries::entry_line;
-use report::lines::header_line;
-use report::lines::refusal_line;
-use report::lines::total_line;
+use report::book::fill_rest;
+use report::book::first_line;
+use report::book::later_line;
+use report::input::TRAILER;
+use report::input::begin_tail;
+use report::input::end_with_tail;
+use report::input::keep_tail;
 use text::line::blank_line;
-use text::put::keep_last;
-use text::put::put;
-ghost use Prim.Native.Nat.{_≤_};
 ghost use mathlib.Core.Path.{_≡_};
+ghost use Prim.Native.Nat.{_+_, _*_, _≤_, _<_};
 ghost use lib.ListN.{length};
+ghost use Rattle.board.specs.Limits.{mostLines};
+ghost use Rattle.board.specs.Book.{found as foundIn};
+ghost use Rattle.image.specs.Image.{longestImage};
 
-// Room for an image, and for one byte more than the longest good one has.
-fn blank_image() -> [u8; 5517]
-    ensures { λ r. ⌜ 5517 ≡ length r ⌝ }
+// One byte more than the longest good image has, and the entries of the most lines.
+const IMAGE_ROOM: usize = LONGEST_IMAGE + 1;
+
+const BOOK_ROOM: usize = 2 * MOST_LINES;
+
+// Room for an image.
+fn blank_image() -> [u8; IMAGE_ROOM]
+    ensures { λ r. ⌜ longestImage + 1 ≡ length r ⌝ }
 {
-    [0u8; 5517]
+    [0u8; IMAGE_ROOM]
+}
+
+// Room for a book.
+fn blank_book() -> [Entry; BOOK_ROOM]
+    ensures { λ r. ⌜ 2 * mostLines ≡ length r ⌝ }
+{
+    [0u32; BOOK_ROOM]
 }
 
 // Writes the first n bytes of a buffer.
@@ -28,89 +45,64 @@ fn write_out(out: &[u8], n: usize)
     io::write_all(STDOUT_FILENO, &out[..n]);
 }
 
-// Writes the line of entry k, and gives 1 where it is not none.
-fn write_entry(img: &[u8], k: usize) -> usize
-    ensures { λ r. ⌜ r ≤ 1 ⌝ }
+// Writes the lines after the first, in their order.
+fn write_rest(book: &[Entry], found: usize)
+    requires { ⌜ found ≡ foundIn (now book) ⌝ }
 {
-    let mut out = blank_line();
-    let line = entry_line(img, k, &mut out);
-    write_out(&out, line.len);
-    line.found
-}
-
-// Writes the lines of all entries, in the book's order, and gives how many are not none.
-fn write_entries(img: &[u8], all: usize) -> usize
-    requires { ⌜ all ≤ 65536 ⌝ }
-    ensures { λ r. ⌜ r ≤ all ⌝ }
-{
-    let mut found = 0;
     let mut k = 0;
-    while k < all {
-        found += write_entry(img, k);
+    while k <= book.len() {
+        let mut out = blank_line();
+        let n = later_line(book, found, k, &mut out);
+        write_out(&out, n);
         k += 1;
     }
-    found
 }
 
-// Writes an image's book, or its refusal.
-fn write_book(img: &[u8]) {
+// Writes the text.
+fn write_text(img: &[u8]) {
     let mut out = blank_line();
-    match check(img) {
-        Checked::Refused(r) => {
-            let n = refusal_line(r, &mut out);
-            write_out(&out, n);
-        }
-        Checked::Good {
-            lines,
-            inputs,
-            outputs,
-        } => {
-            let n = header_line(lines, inputs, outputs, &mut out);
-            write_out(&out, n);
-            let all = 2 * lines;
-            let found = write_entries(img, all);
-            let m = total_line(found, all, &mut out);
-            write_out(&out, m);
-        }
+    let n = first_line(img, &mut out);
+    write_out(&out, n);
+    let mut room = blank_book();
+    let rest = fill_rest(img, &mut room);
+    if 0 < rest.lines {
+        let entries = rest.lines - 1;
+        write_rest(&room[..entries], rest.found);
     }
 }
 
-// Reads once more behind the last 12 bytes, which stay at the front, and says whether anything came.
-fn read_more(buf: &mut [u8]) -> bool
-    requires { ⌜ 12 ≤ length (now buf) ⌝ }
-{
-    let got = io::read_full(STDIN_FILENO, &mut buf[12..]);
-    if got == 0 {
-        return false;
-    }
-    keep_last(buf, got);
-    true
-}
-
-// Reads standard input to its end, and leaves its last 12 bytes at the front.
+// Reads standard input to its end, and leaves the last 12 bytes of all that came at the front.
 fn read_on(buf: &mut [u8])
     requires { ⌜ 12 ≤ length (now buf) ⌝ }
 {
     let mut turns = u64::MAX;
     while 0 < turns {
-        if !read_more(buf) {
+        let got = io::read_full(STDIN_FILENO, &mut buf[TRAILER..]);
+        if got == 0 {
             return;
         }
+        keep_tail(buf, got);
         turns -= 1;
     }
 }
 
-// An input longer than any good image is refused by its last 12 bytes alone, whatever stands before them.
+// Writes the text of an input that begins with these bytes and is longer than any good image: its last 12 bytes alone decide it.
+fn write_long(img: &mut [u8])
+    requires { ⌜ longestImage < length (now img) ⌝ }
+{
+    let mut buf = io::large_buffer();
+    begin_tail(img, &mut buf);
+    read_on(&mut buf);
+    end_with_tail(&buf, img);
+    write_text(img);
+}
+
 fn main() {
     let mut img = blank_image();
     let n = io::read_full(STDIN_FILENO, &mut img);
-    if n < 5517 {
-        write_book(&img[..n]);
-        return;
+    if n <= LONGEST_IMAGE {
+        write_text(&img[..n]);
+    } else {
+        write_long(&mut img[..n]);
     }
-    let mut buf = io::large_buffer();
-    put(&img[5505..], &mut buf, 0);
-    read_on(&mut buf);
-    put(&buf[..12], &mut img, 5505);
-    write_book(&img);
 }

@@ -3,7 +3,7 @@ use bytes::copy;
 ghost use mathlib.Core.Path.{_≡_};
 ghost use mathlib.Core.List.{_++_};
 ghost use Prim.Native.Nat.{_+_, _≤_};
-ghost use lib.ListN.{length, take, drop};
+ghost use lib.ListN.{length, take};
 ghost use Rattle.text.specs.Text.{decimal};
 
 // Puts bytes behind the first `at` of a buffer, and gives where they end.
@@ -22,22 +22,4 @@ pub fn put_number(n: u64, out: &mut [u8], at: usize) -> usize
     let mut digits = [0u8; 20];
     let k = io::decimal(n, &mut digits);
     put(&digits[..k], out, at)
-}
-
-// Brings the 12 bytes from a place on to the front of a buffer.
-pub fn keep_last(buf: &mut [u8], from: usize)
-    requires { ⌜ from + 12 ≤ length (now buf) ⌝ }
-    ensures { λ _. ⌜ take 12 (now (buf .exit)) ≡ take 12 (drop from (now (buf .entry))) ⌝ }
-{
-    let end = from + 12;
-    let mut last = twelve();
-    copy(&buf[from..end], &mut last);
-    copy(&last, buf);
-}
-
-// Room for 12 bytes.
-fn twelve() -> [u8; 12]
-    ensures { λ r. ⌜ 12 ≡ length r ⌝ }
-{
-    [0u8; 12]
 }

@@ -4,8 +4,8 @@ use mathlib.Core.List.{List, [], _∷_, _++_, append-assoc, append-nil}
 use Prim.Native.Nat.{ℕ, _+_, _-_, _*_, _≤_, _<_}
 use native.Mathlib.Numerals.{add-one}
 use native.Mathlib.Omega.{arith}
-use lib.ListN.{length, take, drop, set, length-append, length-take, length-drop, length-set}
-use lib.Seq.{take-suc-set, take-at, take-append-seam, take-length, length-take-le}
+use lib.ListN.{length, take, set, length-append, length-set}
+use lib.Seq.{take-suc-set, take-at, take-length, length-take-le}
 
 module _ (all made rest : List ℕ) (is : all ≡ made ++ rest) where
   -- one piece more
@@ -26,21 +26,9 @@ two-more out i a b room =
     let two : 2 * (i + 1) ≡ 2 * i + 1 + 1 = omega arith in
     rw (two, one-more (set out (2 * i) a) (2 * i + 1) b (rw length-set room), one-more out (2 * i) a (omega arith)) (append-assoc (take (2 * i) out) _ _)
 
--- what a copy leaves at the front
-front : (src tail after : List ℕ) → after ≡ take (length src) src ++ tail → take (length src) after ≡ src
-front src tail after e = rw (e, take-length src) (take-append-seam src tail)
-
--- and behind the first bytes
+-- what a copy leaves behind the first bytes
 pub behind : (src tail part out rest : List ℕ) (at : ℕ) → at ≤ length out → part ≡ take (length src) src ++ tail
     → take (at + length src) (take at out ++ (part ++ rest)) ≡ take at out ++ src
 behind src tail part out rest at room e =
     rw (e, take-length src, append-assoc src tail rest, ← append-assoc (take at out) src (tail ++ rest))
     (take-at (take at out ++ src) (tail ++ rest) (at + length src) (rw (length-append, length-take-le at out room)))
-
--- twelve bytes copied to the front by way of room for twelve
-pub brought : (buf part last after tail rest : List ℕ) (from : ℕ) → from + 12 ≤ length buf → part ≡ take (from + 12 - from) (drop from buf) → length last ≡ 12
-    → last ≡ take (length part) part ++ tail → after ≡ take (length last) last ++ rest → take 12 after ≡ take 12 (drop from buf)
-brought buf part last after tail rest from room is size copied back =
-    let same : from + 12 - from ≡ 12 = omega arith in
-    let twelve : length part ≡ 12 = rw is (simp (length-take, length-drop) (omega arith)) in
-    rw size at (front last rest after back) ∙ sym (rw size at (take-length last)) ∙ rw twelve at (front part tail last copied) ∙ rw (is, same)

@@ -1,5 +1,5 @@
 -- `report::lines::counted_line` meets its contract: a refusal's line, or the form with the count and the length.
-use mathlib.Core.Path.{_≡_, _∙_}
+use mathlib.Core.Path.{_≡_}
 use mathlib.Core.Logic.{⊎-elim}
 use mathlib.Core.Bool.{cond}
 use lib.Dec.{eqb}
