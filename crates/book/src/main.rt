@@ -35,7 +35,7 @@ fn blank_image() -> [u8; IMAGE_ROOM]
 fn blank_book() -> [Entry; BOOK_ROOM]
     ensures { λ r. ⌜ 2 * mostLines ≡ length r ⌝ }
 {
-    [0u32; BOOK_ROOM]
+    [0; BOOK_ROOM]
 }
 
 // Writes the first n bytes of a buffer.
