@@ -9,10 +9,10 @@ import platform
 import re
 import shutil
 import subprocess
-import sys
 from pathlib import Path
 
 import programs
+from counted import count, counts, end
 from programs import ROOT
 
 ARCHIVE = ROOT / "target/staticlib/libexports.a"
@@ -61,22 +61,6 @@ book T: Entries(2) [4294967295, 4294967295, 0, 4294967295, 0, 4294967295]
 alter T 2: Entries(2) [4294967295, 4294967295, 4294967295, 1, 4294967295, 0]
 """
 
-passed = failed = 0
-
-
-def count(name, right, why=""):
-    """One check, passed or failed."""
-    global passed, failed
-    passed, failed = passed + bool(right), failed + (not right)
-    if not right:
-        print(f"FAILED: {name}: {why}")
-
-
-def end():
-    print(f"{passed} passed, {failed} failed")
-    sys.exit(1 if failed else 0)
-
-
 def run(name, command, **words):
     """What a command writes, or nothing where it fails, which is a failed check."""
     done = subprocess.run([str(c) for c in command], stdout=subprocess.PIPE, stderr=subprocess.STDOUT, text=True, timeout=1800, **words)
@@ -122,10 +106,8 @@ def from_c(compiler, words, runner):
         run(source, [compiler, *strict, ROOT / source, ARCHIVE, "-o", ROOM / name])
     compare("C example", run("C example", [*runner, ROOM / "example", ROOT / "boards"]), C_EXAMPLE)
     written = run("C refusals", [*runner, ROOM / "refusals", ROOT / "boards/T.img"])
-    counts = re.search(r"^([0-9]+) passed, 0 failed\n\Z", written, re.MULTILINE)
-    count("C refusals", counts, written)
-    global passed
-    passed += int(counts[1]) - 1 if counts else 0
+    all_passed = re.search(r"^([0-9]+) passed, 0 failed\n\Z", written, re.MULTILINE)
+    count("C refusals", all_passed, written, int(all_passed[1]) if all_passed else 1)
 
 
 def from_rust(compiler, runner):
@@ -141,17 +123,15 @@ def from_rust(compiler, runner):
         key = "CARGO_TARGET_" + TARGET.upper().replace("-", "_")
         words |= {f"{key}_LINKER": compiler, f"{key}_RUNNER": " ".join(runner), "RUSTFLAGS": "-C target-feature=+crt-static"}
     written = run("Rust tests", ["cargo", "test", *at, "--test", "calls"], env=words)
-    counts = re.search(r"test result: ok\. ([1-9][0-9]*) passed; 0 failed", written)
-    count("Rust tests", counts, written)
-    global passed
-    passed += int(counts[1]) - 1 if counts else 0
+    all_passed = re.search(r"test result: ok\. ([1-9][0-9]*) passed; 0 failed", written)
+    count("Rust tests", all_passed, written, int(all_passed[1]) if all_passed else 1)
     compare("Rust example", run("Rust example", ["cargo", "run", *at, "--example", "calls"], env=words), RUST_EXAMPLE)
 
 
 compiler, words, runner = tools()
 # one rt at a time in this folder, as the launcher has it
 run("archive", ["flock", ROOT, "rt", "staticlib", "exports"], cwd=ROOT)
-if failed:
+if counts[False]:
     end()
 ROOM.mkdir(parents=True, exist_ok=True)
 symbols()

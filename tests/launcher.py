@@ -8,11 +8,11 @@ import os
 import re
 import shutil
 import subprocess
-import sys
 import tempfile
 import time
 from pathlib import Path
 
+from counted import count, end
 from programs import LAUNCHER
 
 # stands in for rt: a program's source is its binary. It refuses a run beside another one, as shared logs make rt do, and a crate whose
@@ -53,17 +53,6 @@ FILES = {
 }
 PROVING = r"bench: proving tool: crate ([1-4]) of 4 \(([\w ]+)\), [0-9]+ s"
 WAITING = r"bench: waiting for another run that proves here, [0-9]+ s"
-
-passed = failed = 0
-
-
-def count(name, right, why=""):
-    """One check, passed or failed."""
-    global passed, failed
-    passed, failed = passed + bool(right), failed + (not right)
-    if not right:
-        print(f"FAILED: {name}: {why}")
-
 
 def program(word):
     """The source of a program that writes a word, its arguments and its input."""
@@ -244,5 +233,4 @@ with tempfile.TemporaryDirectory() as folder:
     room = Room(Path(folder))
     for part in (four_at_once, proves_by_content, refuses_unproved, runs_nothing_else, proves_what_it_runs, waits_for_the_gate, takes_words):
         part(room)
-print(f"{passed} passed, {failed} failed")
-sys.exit(1 if failed else 0)
+end()
