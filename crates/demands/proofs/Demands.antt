@@ -16,7 +16,7 @@ use Rattle.image.specs.Calls.{faultRefusals}
 use Rattle.find.specs.Find.{patternOf, findPromise}
 use Rattle.find.specs.Book.{bookRefusals, bookPromise}
 use Rattle.alter.specs.Alter.{alterRefusals, alterPromise, Calls}
-use Rattle.demands.specs.Demands.{Call, TurnsAway, DifferSomewhere, SmallestTest, WholeBook, patterns, BroughtUp}
+use Rattle.demands.specs.Demands.{Call, TurnsAway, DifferSomewhere, SmallestTest, WholeBook, shownIn, BroughtUp}
 use Rattle.demands.proofs.Laws.{turned-away, shows-differ, differ-shows, found-smallest, filled-whole, brought-up, stays-whole}
 
 -- Demand 1. Any bytes may come in. A bad board, line, stuck value, pattern, buffer or alteration is turned away by its own number, just
@@ -36,7 +36,7 @@ pub find-right : (s : List ℕ) (φ : Fault) (said : List ℕ) → Owes (findPro
 find-right s φ said owes e = found-smallest s φ said owes e
 
 pub book-right : (s old after said : List ℕ) → Owes (bookPromise s old) (after ∷ []) said → firstRefusal (bookRefusals s old) ≡ none
-    → WholeBook s after × (said ≡ 0 ∷ patterns after ∷ [])
+    → WholeBook s after × (said ≡ 0 ∷ shownIn after ∷ [])
 book-right s old after said owes e = let (ok, whole, counted) = filled-whole s old after said owes e in (whole, counted)
 
 -- Demand 3. When one gate is altered the book is brought up to date: entries of faults whose line reaches an output that the altered line
@@ -45,7 +45,7 @@ book-right s old after said owes e = let (ok, whole, counted) = filled-whole s o
 
 pub alter-brings-up : (s book : List ℕ) (line : ℕ) (new t later said : List ℕ) → length new ≡ 10
     → Owes (alterPromise s book line new) (t ∷ later ∷ []) said → firstRefusal (alterRefusals s book line new) ≡ none
-    → BroughtUp s t line new book later × (said ≡ 0 ∷ patterns later ∷ [])
+    → BroughtUp s t line new book later × (said ≡ 0 ∷ shownIn later ∷ [])
 alter-brings-up s book line new t later said ten owes e = brought-up s book line new t later said ten owes e
 
 pub stays-right : {s book t last : List ℕ} → Calls s book t last → Accepted s → WholeBook s book → Accepted t × WholeBook t last

@@ -32,7 +32,7 @@ use Rattle.find.specs.Book.{badBook, bookRefusals, bookOf, bookPromise}
 use Rattle.alter.specs.Alter.{broughtUp, alterRefusals, alterPromise, Calls, done, next}
 use Rattle.alter.proofs.Laws.Runs.{alter-accepted, patches, alter-keeps}
 use Rattle.alter.proofs.Laws.Board.{board-is}
-use Rattle.demands.specs.Demands.{TurnsAway, DifferSomewhere, SmallestTest, WholeBook, patterns, BroughtUp}
+use Rattle.demands.specs.Demands.{TurnsAway, DifferSomewhere, SmallestTest, WholeBook, shownIn, BroughtUp}
 
 -- whatever is owed turns away as demand 1 says
 pub turned-away : {p : Promise} {left : List (List ℕ)} {said : List ℕ} → Owes p left said → TurnsAway p left said
@@ -89,17 +89,17 @@ whole-right s book whole k l =
     sym (stands-entry (getD book k 0)) ∙ ap entry one
 
 -- the count of entries that are not none is that of the patterns
-counts-patterns : (book : List ℕ) → found book ≡ patterns book
-counts-patterns [] = refl
-counts-patterns (e ∷ es) =
+counts-shown : (book : List ℕ) → found book ≡ shownIn book
+counts-shown [] = refl
+counts-shown (e ∷ es) =
     ⊎-elim
-    (λ (t : eqb e noneMark ≡ true). rw t (omega (arith, counts-patterns es)))
-    (λ (t : eqb e noneMark ≡ false). rw t (omega (arith, counts-patterns es)))
+    (λ (t : eqb e noneMark ≡ true). rw t (omega (arith, counts-shown es)))
+    (λ (t : eqb e noneMark ≡ false). rw t (omega (arith, counts-shown es)))
     (way (eqb e noneMark))
 
 -- a book as the call fills it is whole, and its count is that of its patterns
 pub filled-whole : (s old after said : List ℕ) → Owes (bookPromise s old) (after ∷ []) said → firstRefusal (bookRefusals s old) ≡ none
-    → Accepted s × WholeBook s after × (said ≡ 0 ∷ patterns after ∷ [])
+    → Accepted s × WholeBook s after × (said ≡ 0 ∷ shownIn after ∷ [])
 unfolding bookRefusals bookOf
 filled-whole s old after said owes e =
     let ok = none-both (imageRefusals s) (badBook s (length old)) e .0 in
@@ -107,11 +107,11 @@ filled-whole s old after said owes e =
     let is : after ≡ bookOf s = cc in
     let answers : ℕ → List ℕ → ℕ = λ k before. entry (find (boardOf s) (lineFault k)) in
     let whole = right-whole s (bookOf s) ok (build-length answers (2 * lineCount s)) (fresh-right lineFault (boardOf s) (2 * lineCount s)) in
-    (ok, rw is whole, done-says owes e ∙ rw (is, counts-patterns (bookOf s)))
+    (ok, rw is whole, done-says owes e ∙ rw (is, counts-shown (bookOf s)))
 
 -- an accepted alteration brings every entry up to date
 pub brought-up : (s book : List ℕ) (line : ℕ) (new t later said : List ℕ) → length new ≡ 10 → Owes (alterPromise s book line new) (t ∷ later ∷ []) said
-    → firstRefusal (alterRefusals s book line new) ≡ none → BroughtUp s t line new book later × (said ≡ 0 ∷ patterns later ∷ [])
+    → firstRefusal (alterRefusals s book line new) ≡ none → BroughtUp s t line new book later × (said ≡ 0 ∷ shownIn later ∷ [])
 unfolding broughtUp renewed
 brought-up s book line new t later said ten owes e =
     let b = boardOf s in
@@ -127,7 +127,7 @@ brought-up s book line new t later said ten owes e =
         fresh = λ k l yes. rw (is, board) (build-at entries (length book) k l ∙ rw yes);
         kept = λ k l no. rw is (build-at entries (length book) k l ∙ rw no);
       },
-      done-says owes e ∙ rw (up, counts-patterns (broughtUp s book line new)),
+      done-says owes e ∙ rw (up, counts-shown (broughtUp s book line new)),
     )
 
 -- through any run of calls an accepted image stays accepted, and its whole book whole

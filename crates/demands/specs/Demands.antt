@@ -64,8 +64,8 @@ abbrev pub one : Option ℕ → ℕ
 one none = 0
 one (some p) = 1
 
-abbrev pub patterns : List ℕ → ℕ
-patterns book = ones (map (λ (e : ℕ). one (answerIn e)) book)
+abbrev pub shownIn : List ℕ → ℕ
+shownIn book = ones (map (λ (e : ℕ). one (answerIn e)) book)
 
 -- demand 3, of a line's new record, which turned the image s into t and its book into `later`: the image differs in that one
 -- record, the touched entries are worked out afresh on the new board, and every other one is kept

@@ -27,8 +27,8 @@ pub record Row : Type 0 where
   pub asks : Command
 
 -- a row of the table, its form as quoted text
-abbrev pub row : String → Command → Row
-row f c = record { form = text f; asks = c }
+abbrev pub asked-by : String → Command → Row
+asked-by f c = record { form = text f; asks = c }
 
 -- the form of a row
 abbrev pub itsForm : Row → List ℕ
@@ -37,27 +37,27 @@ itsForm r = r .form
 -- the commands of the console's page, each with its form: N a number, F a fault, H HEX, P a path
 unfoldable pub table : Values → List Row
 table v =
-    row "load H" (Anew (Load (v .from)))
-    ∷ row "open P" (Anew (Open (v .from)))
-    ∷ row "save P" (OnImage (Save (v .from)))
-    ∷ row "image" (OnImage Image)
-    ∷ row "check" (OnImage Check)
-    ∷ row "judge N F" (OnImage (Judge (v .one) (v .fault)))
-    ∷ row "find F" (OnImage (Find (v .fault)))
-    ∷ row "lend rows N N" (OnRows (LendRows (v .two) (v .three)))
-    ∷ row "put good H" (OnRows (PutGood (v .from)))
-    ∷ row "put faulty H" (OnRows (PutFaulty (v .from)))
-    ∷ row "rows N F" (OnRows (Rows (v .one) (v .fault)))
-    ∷ row "refresh N N" (OnRows (Refresh (v .one) (v .two)))
-    ∷ row "five N N F" (OnRows (Five (v .one) (v .two) (v .fault)))
-    ∷ row "show good N" (OnRows (ShowGood (v .two)))
-    ∷ row "show faulty N" (OnRows (ShowFaulty (v .two)))
-    ∷ row "lend book N" (OnBook (LendBook (v .two)))
-    ∷ row "put entry N N" (OnBook (Put (v .two) (v .three)))
-    ∷ row "book" (OnBook Book)
-    ∷ row "alter N H" (OnBook (Alter (v .one) (v .from)))
-    ∷ row "entries" (OnBook Entries)
-    ∷ row "help" Help
+    asked-by "load H" (Anew (Load (v .from)))
+    ∷ asked-by "open P" (Anew (Open (v .from)))
+    ∷ asked-by "save P" (OnImage (Save (v .from)))
+    ∷ asked-by "image" (OnImage Image)
+    ∷ asked-by "check" (OnImage Check)
+    ∷ asked-by "judge N F" (OnImage (Judge (v .one) (v .fault)))
+    ∷ asked-by "find F" (OnImage (Find (v .fault)))
+    ∷ asked-by "lend rows N N" (OnRows (LendRows (v .two) (v .three)))
+    ∷ asked-by "put good H" (OnRows (PutGood (v .from)))
+    ∷ asked-by "put faulty H" (OnRows (PutFaulty (v .from)))
+    ∷ asked-by "rows N F" (OnRows (Rows (v .one) (v .fault)))
+    ∷ asked-by "refresh N N" (OnRows (Refresh (v .one) (v .two)))
+    ∷ asked-by "five N N F" (OnRows (Five (v .one) (v .two) (v .fault)))
+    ∷ asked-by "show good N" (OnRows (ShowGood (v .two)))
+    ∷ asked-by "show faulty N" (OnRows (ShowFaulty (v .two)))
+    ∷ asked-by "lend book N" (OnBook (LendBook (v .two)))
+    ∷ asked-by "put entry N N" (OnBook (Put (v .two) (v .three)))
+    ∷ asked-by "book" (OnBook Book)
+    ∷ asked-by "alter N H" (OnBook (Alter (v .one) (v .from)))
+    ∷ asked-by "entries" (OnBook Entries)
+    ∷ asked-by "help" Help
     ∷ []
 
 -- the numbers of a line's words 1, 2 and 3 (word 0 is the first); the fault that its last word names, and where that word begins

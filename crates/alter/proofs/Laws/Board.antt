@@ -17,7 +17,7 @@ use Rattle.board.specs.Test.{first}
 use Rattle.board.proofs.Fine.{leading-set, inputs-altered}
 use Rattle.board.proofs.Lists.{way, build-same}
 use Rattle.board.proofs.Search.{first-none}
-use Rattle.image.specs.Bytes.{byteAt, wordAt, words}
+use Rattle.image.specs.Bytes.{byteAt, wordAt, wordsAt}
 use Rattle.image.specs.Image.{lineCount, outputCount, distance, lastFour, firstRecord, recordPlace, outputAt, recordAt, records, boardOf}
 use Rattle.image.specs.Refusals.{badField, badAt, firstBad, badOutput, firstBadOutput, Accepted}
 use Rattle.image.specs.Check.{checkPromise}
@@ -39,7 +39,7 @@ pub record Same (s : List ℕ) (p : ℕ) (t : List ℕ) (q : ℕ) : Type 0 where
 module _ {s : List ℕ} {p : ℕ} {t : List ℕ} {q : ℕ} (same : Same s p t q) where
   same-record : byteAt t (q + 1) ≤ 4 → recordAt s p ≡ recordAt t q
   same-record few =
-      let pins : words s (p + 2) (byteAt t (q + 1)) ≡ words t (q + 2) (byteAt t (q + 1)) =
+      let pins : wordsAt s (p + 2) (byteAt t (q + 1)) ≡ wordsAt t (q + 2) (byteAt t (q + 1)) =
       build-same _ _ (byteAt t (q + 1)) (λ j before l. same .pins j (omega arith)) in
       cc (same .kind, same .count, pins)
 
@@ -73,7 +73,7 @@ module _ (s : List ℕ) (line : ℕ) (new : List ℕ) (ten : length new ≡ 10) 
   same-start = cc (size, same-distance)
 
   -- so do the outputs
-  kept-outputs : words (patched s line new) (recordPlace s (lineCount s)) (outputCount s) ≡ words s (recordPlace s (lineCount s)) (outputCount s)
+  kept-outputs : wordsAt (patched s line new) (recordPlace s (lineCount s)) (outputCount s) ≡ wordsAt s (recordPlace s (lineCount s)) (outputCount s)
   kept-outputs = build-same _ _ (outputCount s) (λ j before l. word-kept s line new ten fits (recordPlace s (lineCount s) + 2 * j) (inr (omega (arith, inside))))
 
   -- and every other record

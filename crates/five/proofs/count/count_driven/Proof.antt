@@ -5,7 +5,7 @@ use native.Mathlib.Omega.{arith}
 use lib.ListN.{getD}
 use borrow.Author.Needs.{needs}
 use Rattle.board.specs.Lists.{bit}
-use Rattle.image.specs.Bytes.{words}
+use Rattle.image.specs.Bytes.{wordsAt}
 use Rattle.image.specs.Image.{lineCount, outputCount, recordPlace}
 use Rattle.five.specs.Driven.{isDriven, drivenOf}
 use Rattle.five.proofs.Laws.Driven.{none-driven, next-driven}
@@ -14,7 +14,7 @@ use Rattle.five.proofs.count.count_driven.Tie as tie
 
 abbrev Inv-loop : tie.InvT-loop
 Inv-loop img row outputs count₀ j₀ count j =
-    (j ≤ outputs) × (count ≤ j) × (count ≡ drivenOf row (words img (recordPlace img (lineCount img)) j))
+    (j ≤ outputs) × (count ≤ j) × (count ≡ drivenOf row (wordsAt img (recordPlace img (lineCount img)) j))
 
 abbrev μ-loop : tie.MeasureT-loop
 μ-loop img row outputs count₀ j₀ count j = outputs - j
@@ -36,7 +36,7 @@ returns c =
     let at-loop = c .before in
     let a = at-loop .before .before .before .before .args in
     let all : at-loop .loop .j ≡ outputCount (a .img .now) = omega (arith, at-loop .before .output-count .ensures .0) in
-    at-loop .loop .inv .2 ∙ ap (λ (j : ℕ). drivenOf (a .row .now) (words (a .img .now) (recordPlace (a .img .now) (lineCount (a .img .now))) j)) all
+    at-loop .loop .inv .2 ∙ ap (λ (j : ℕ). drivenOf (a .row .now) (wordsAt (a .img .now) (recordPlace (a .img .now) (lineCount (a .img .now))) j)) all
 
 pub count-driven-spec : {M : Type 1} → statement M
 count-driven-spec =
