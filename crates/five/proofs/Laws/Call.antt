@@ -2,23 +2,19 @@
 use mathlib.Core.Path.{_≡_, refl}
 use mathlib.Core.Option.{Option, none, some}
 use mathlib.Core.List.{List, [], _∷_}
-use mathlib.Core.Bool.{not}
 use Prim.Native.Nat.{ℕ}
 use native.Mathlib.Nat.{not-suc-le-zero}
-use lib.Dec.{eqb}
 use lib.ListN.{length, getD}
-use borrow.Author.Tests.{eqb-true, not-false}
 use Rattle.board.specs.Gate.{having}
 use Rattle.board.specs.declared.Fault.{Fault}
-use Rattle.image.specs.Image.{lineCount, boardOf}
+use Rattle.image.specs.Image.{boardOf}
 use Rattle.image.specs.Refusals.{firstRefusal}
 use Rattle.image.specs.Promise.{answer, Promise, Owes}
 use Rattle.image.specs.Calls.{_then_, badStuck, badRow, lineRefusals, faultRefusals}
 use Rattle.image.specs.declared.Refusal.{Refusal}
-use Rattle.image.specs.declared.Refusal.the-variants.{Lent}
-use Rattle.image.proofs.Laws.Answer.{not-given, none-both}
+use Rattle.image.proofs.Laws.Answer.{none-both}
 use Rattle.image.proofs.Laws.Promise.{read-back, refused-again, number-over, Told, told, done-leaves, done-says}
-use Rattle.image.proofs.Laws.Calls.{line-accepted, fault-accepted}
+use Rattle.image.proofs.Laws.Calls.{line-accepted, fault-accepted, row-long}
 use Rattle.five.specs.Partial.{badPartial}
 use Rattle.five.specs.Driven.{driven}
 use Rattle.five.specs.Five.{drivenSays, fiveRefusals, fiveRow, fivePromise}
@@ -58,7 +54,7 @@ module _ (s : List ℕ) (named values : ℕ) (φ : Fault) (old : List ℕ) where
       record {
         ok = line-accepted s (φ .line) past-line .0;
         condition = fault-accepted s φ past-fault;
-        long = eqb-true (length old) (lineCount s) (not-false _ (not-given (not (eqb (length old) (lineCount s))) Lent long));
+        long = row-long s (length old) long;
       }
 
   -- a count is that of the row, which is filled
