@@ -4,10 +4,6 @@ use Rattle.ports.specs.declared.input.Place.{Place}
 use Rattle.ports.specs.declared.input.Step.{Step}
 use Rattle.ports.specs.declared.input.Step.the-variants.{Line, Long, More, Last}
 
--- a line of this many bytes is too long
-abbrev pub tooLong : ℕ
-tooLong = 200000
-
 -- what the buffer has room for
 abbrev pub roomy : ℕ
 roomy = 262144
