@@ -23,9 +23,9 @@ fn rework(
     requires { ⌜ Reworkable (now img) counts line (now new) (now book) × (length (now marks) ≡ lineCount (now img)) × ((l : ℕ) → getD (now marks) l 0 ≡ 0) ⌝ }
     ensures { λ r. ⌜ Reworked (now (img .entry)) line (now (new .entry)) (now (book .entry)) r (now (img .exit)) (now (book .exit)) ⌝ }
 {
-    mark_met(img, counts, line, marks);
+    mark_met(img, counts, line, marks); // the board before
     put_record(img, line, new);
-    mark_met(img, counts, line, marks);
+    mark_met(img, counts, line, marks); // the board after
     renew(img, counts, marks, book)
 }
 

@@ -117,7 +117,7 @@ brought-up s book line new t later said ten owes e =
     let b = boardOf s in
     let a = recordAt new 0 in
     let known = alter-accepted s book line new e in
-    let (put, up) = patches line new ten owes e in
+    let (put, up) = patches s book line new ten owes e in
     let board : boardOf t ≡ altered b line a = ap boardOf put ∙ board-is s line new ten (known .ok) (known .inside) (known .fits) in
     let entries : ℕ → List ℕ → ℕ = λ k before. renewed b line a (lineFault k) (getD book k 0) in
     let is : later ≡ build entries (length book) = up in (
@@ -134,5 +134,5 @@ brought-up s book line new t later said ten owes e =
 pub stays-whole : {s book t last : List ℕ} → Calls s book t last → Accepted s → WholeBook s book → Accepted t × WholeBook t last
 stays-whole done ok whole = (ok, whole)
 stays-whole (next {s} {t} {u} {book} {later} line new ten one more) ok whole =
-    let kept = alter-keeps line new ten one (record { ok = ok; long = whole .long; right = whole-right s book whole }) in
+    let kept = alter-keeps s book line new ten one (record { ok = ok; long = whole .long; right = whole-right s book whole }) in
     stays-whole more (kept .ok) (right-whole t later (kept .ok) (kept .long) (kept .right))

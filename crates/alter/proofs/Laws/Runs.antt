@@ -52,7 +52,7 @@ pub record Whole (s book : List ℕ) : Type 0 where
   pub long : length book ≡ 2 * lineCount s
   pub right : Right lineFault (boardOf s) book
 
-module _ {s book : List ℕ} (line : ℕ) (new : List ℕ) {said t later : List ℕ} (ten : length new ≡ 10) (owes : Owes (alterPromise s book line new) (t ∷ later ∷ []) said) where
+module _ (s book : List ℕ) (line : ℕ) (new : List ℕ) {said t later : List ℕ} (ten : length new ≡ 10) (owes : Owes (alterPromise s book line new) (t ∷ later ∷ []) said) where
   -- what the call leaves where no refusal applies
   pub patches : firstRefusal (alterRefusals s book line new) ≡ none → (t ≡ patched s line new) × (later ≡ broughtUp s book line new)
   patches e = let left = done-leaves owes e in (cc, cc)
