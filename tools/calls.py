@@ -1,11 +1,12 @@
 #!/usr/bin/env python3
-"""Says whether docs/PROMISES.md and the sources agree on the public calls, on what is inner, and on what the proofs rest on.
+"""Says whether docs/PROMISES.md and the sources agree on the public calls and on what is inner.
 
 Every `pub fn` of a library is accounted for. It is a call, which has a row in the table of calls: then it has no `requires`, its `ensures`
 is `Owes` of its promise alone (or Show's `ShowOwes`), the promise and the law that pins it stand where the row says, the front page lists it,
-and the row names at least two must-fail edits of its crate. Or it is exported: then it has no `requires` and ensures `Exported` alone. Or it
-is inner: then it stands under a module path that PROMISES.md names as inner. A module that no other crate uses is private.
-Every must-fail edit of every crate is named in PROMISES.md, and each call has one in its own lib.rt.
+and the row names at least two must-fail edits of its crate, one of them in its own src/lib.rt. Or it is exported: then it has no
+`requires` and ensures `Exported` alone. Or it is inner: then it stands under a module path that PROMISES.md names as inner. A module that
+no other crate uses is private.
+Every must-fail edit of every crate is named in PROMISES.md.
 """
 import pathlib
 import re
@@ -13,7 +14,8 @@ import sys
 
 ROOT = pathlib.Path(__file__).resolve().parent.parent
 CRATES = ROOT / "crates"
-FUNCTION = re.compile(r'^pub (extern "C" )?fn (\w+)(.*?)^\{', re.M | re.S)
+# from its name to its body, which begins on the same line where there is no contract
+FUNCTION = re.compile(r'^pub (extern "C" )?fn (\w+)(.*?)(?:^\{|(?<=[\w\])>]) \{$)', re.M | re.S)
 ROW = re.compile(r"^\| \*\*(.+?)\*\* \|(.*)\|$", re.M)
 INNER = re.compile(r"^- inner: (.*)$", re.M)
 
@@ -57,9 +59,10 @@ def call_faults(path, name, header, cells, front):
     named = re.findall(r"`(\w+)`", edits)
     if len(named) < 2:
         yield f"{call} names fewer than two must-fail edits"
-    for edit in named:
-        if not (CRATES / path / "must-fail" / f"{edit}.edit").exists():
-            yield f"{path} has no edit {edit}"
+    texts = {edit: CRATES / path / "must-fail" / f"{edit}.edit" for edit in named}
+    yield from (f"{path} has no edit {edit}" for edit, text in texts.items() if not text.exists())
+    if not any(text.exists() and "file: src/lib.rt" in text.read_text() for text in texts.values()):
+        yield f"{call} has no edit in its own src/lib.rt"
 
 
 def module_faults():
