@@ -31,14 +31,11 @@ pub fn obey(
             on_image(asked, line, &img[..n]);
             held
         }
-        Command::OnRows(asked) => {
-            let lent = on_rows(asked, line, &img[..n], good, faulty, rows);
-            Held {
-                image: n,
-                rows: lent,
-                book: held.book,
-            }
-        }
+        Command::OnRows(asked) => Held {
+            image: n,
+            rows: on_rows(asked, line, &img[..n], good, faulty, rows),
+            book: held.book,
+        },
         Command::OnBook(asked) => Held {
             image: n,
             rows,
