@@ -59,11 +59,12 @@ pub record WholeBook (s book : List ℕ) : Type 0 where
   pub long : length book ≡ 2 * lineCount s
   pub entries : (line stuck : ℕ) → line < lineCount s → stuck < 2 → SmallestTest s (line at stuck) (answerIn (getD book (2 * line + stuck) 0))
 
--- how many numbers of a book stand for a pattern
+-- 1 for a pattern, 0 for none
 abbrev pub one : Option ℕ → ℕ
 one none = 0
 one (some p) = 1
 
+-- how many numbers of a book stand for a pattern
 abbrev pub shownIn : List ℕ → ℕ
 shownIn book = ones (map (λ (e : ℕ). one (answerIn e)) book)
 
