@@ -1,14 +1,15 @@
--- What a line's value is: document 01's table of kinds, and what a fault does to it. A condition is sound, or a line or a pin is held.
+-- What a line's value is: document 01's table of kinds, and what a fault does to it: a line is held, or a pin of its gate.
 use mathlib.Core.List.{List, [], _∷_}
 use mathlib.Core.Bool.{Bool, false, not, cond}
 use Prim.Native.Nat.{ℕ, _/_, _%_, _^_}
-use lib.Dec.{eqb, ltb}
+use lib.Dec.{eqb, leb, ltb}
 use lib.ListN.{length, getD, set}
 use Rattle.board.specs.Lists.{bit, ones}
+use Rattle.board.specs.Board.{Board, recordOf}
 use Rattle.board.specs.Row.{Rule}
-use Rattle.board.specs.declared.Fault.{Fault}
 use Rattle.board.specs.declared.Condition.{Condition}
-use Rattle.board.specs.declared.Condition.the-variants.{Sound, Line, Pin}
+use Rattle.board.specs.declared.Fault.the-variants.{Line, Pin}
+use Rattle.board.specs.declared.Condition.the-variants.{Sound, Having}
 
 -- what each kind from 0 up asks of n pins, of which s are 1: that all are (for a buffer, its one), that some are, that exactly one is
 unfoldable pub kinds : ℕ → ℕ → List Bool
@@ -33,38 +34,35 @@ bitOf x i = x / 2 ^ i % 2
 abbrev pub good : ℕ → Rule
 good x i k vs = cond (eqb k 0) (bitOf x i) (gate k vs)
 
-infix 50 _at_
--- the fault of a line that is stuck at a value
-abbrev pub _at_ : ℕ → ℕ → Fault
-line at value = record { line = line; stuck = value }
-
--- the condition of a board with a fault: one line is held for everything that reads it
-abbrev pub having : Fault → Condition
-having φ = Line (φ .line) (φ .stuck)
-
 -- the line that a condition concerns, and the value that something is held at
 abbrev pub site : Condition → ℕ
 site Sound = 0
-site (Line l s) = l
-site (Pin l p s) = l
+site (Having (Line l s)) = l
+site (Having (Pin l p s)) = l
 
 abbrev pub stuck : Condition → ℕ
 stuck Sound = 0
-stuck (Line l s) = s
-stuck (Pin l p s) = s
+stuck (Having (Line l s)) = s
+stuck (Having (Pin l p s)) = s
+
+-- the fault is on an absent pin: one that is not below its gate's pin count
+abbrev pub absent : Board → Condition → Bool
+absent b Sound = false
+absent b (Having (Line l s)) = false
+absent b (Having (Pin l p s)) = leb (length (recordOf b l .pins)) p
 
 module _ (hold : ℕ → ℕ → ℕ) where
   -- what line i's gate reads on its pins: a pin that is held at s reads `hold s v` for v
   abbrev pub heldPins : Condition → ℕ → List ℕ → List ℕ
   heldPins Sound i vs = vs
-  heldPins (Line l s) i vs = vs
-  heldPins (Pin l p s) i vs = cond (eqb i l) (set vs p (hold s (getD vs p 0))) vs
+  heldPins (Having (Line l s)) i vs = vs
+  heldPins (Having (Pin l p s)) i vs = cond (eqb i l) (set vs p (hold s (getD vs p 0))) vs
 
   -- what line i gives: a line that is held at s gives `hold s v` for v
   abbrev pub heldLine : Condition → ℕ → ℕ → ℕ
   heldLine Sound i v = v
-  heldLine (Line l s) i v = cond (eqb i l) (hold s v) v
-  heldLine (Pin l p s) i v = v
+  heldLine (Having (Line l s)) i v = cond (eqb i l) (hold s v) v
+  heldLine (Having (Pin l p s)) i v = v
 
   -- the rule F in a condition
   abbrev pub under : Condition → Rule → Rule
