@@ -70,6 +70,7 @@ pub fn refused(r: Refusal) -> Numbers
         Refusal::Lent => alone(9),
         Refusal::Alteration => alone(10),
         Refusal::Row => alone(11),
+        Refusal::Pin => alone(12),
     }
 }
 
