@@ -12,11 +12,12 @@ use borrow.Author.Tests.{eq-eqb, ne-eqb}
 use Rattle.board.specs.Limits.{noneMark}
 use Rattle.board.specs.Lists.{build}
 use Rattle.board.specs.Board.{Board, inputs, altered}
-use Rattle.board.specs.Gate.{_at_, having}
+use Rattle.board.specs.Gate.{_at_}
 use Rattle.board.specs.Test.{differs, shows, find}
 use Rattle.board.specs.Book.{lineFault, entry, answerIn, found, renewed, Right}
 use Rattle.board.specs.declared.Fault.{Fault}
 use Rattle.board.specs.declared.Condition.{Condition}
+use Rattle.board.specs.declared.Condition.the-variants.{Having}
 use Rattle.board.proofs.Lists.{way, clash, where-passes, passes-somewhere, build-length, build-at}
 use Rattle.board.proofs.Search.{first-is-smallest, smallest-one}
 use Rattle.board.proofs.Alter.{entry-stands, stands-entry, fresh-right}
@@ -52,13 +53,13 @@ unfolding shows differs
 differ-shows b φ x (o, m, ne) = passes-somewhere (differs b φ x) (b .outs) o m (rw (ne-eqb _ _ ne))
 
 -- what a search from pattern 0 up gives is the smallest test
-find-smallest : (s : List ℕ) (φ : Fault) → SmallestTest s φ (find (boardOf s) (having φ))
+find-smallest : (s : List ℕ) (φ : Fault) → SmallestTest s φ (find (boardOf s) (Having φ))
 unfolding find
-find-smallest s φ = first-is-smallest (shows (boardOf s) (having φ)) (2 ^ inputs (boardOf s))
+find-smallest s φ = first-is-smallest (shows (boardOf s) (Having φ)) (2 ^ inputs (boardOf s))
 
 pub found-smallest : (s : List ℕ) (φ : Fault) (said : List ℕ) → Owes (findPromise s φ) [] said → firstRefusal (faultRefusals s φ) ≡ none
     → (o : Option ℕ) × (said ≡ 0 ∷ patternOf o) × SmallestTest s φ o
-found-smallest s φ said owes e = (find (boardOf s) (having φ), done-says owes e, find-smallest s φ)
+found-smallest s φ said owes e = (find (boardOf s) (Having φ), done-says owes e, find-smallest s φ)
 
 -- entry 2 x line + stuck value is that of the line's fault
 entry-fault : (line stuck : ℕ) → stuck < 2 → lineFault (2 * line + stuck) ≡ having (line at stuck)
@@ -85,7 +86,7 @@ whole-right s book whole k l =
     let place : 2 * (k / 2) + k % 2 ≡ k = omega arith in
     let fault = (k / 2) at (k % 2) in
     let small = rw place at (whole .entries (k / 2) (k % 2) inside held) in
-    let one = smallest-one (shows (boardOf s) (having fault)) (2 ^ inputs (boardOf s)) (answerIn (getD book k 0)) (find (boardOf s) (having fault)) small (find-smallest s fault) in
+    let one = smallest-one (shows (boardOf s) (Having fault)) (2 ^ inputs (boardOf s)) (answerIn (getD book k 0)) (find (boardOf s) (Having fault)) small (find-smallest s fault) in
     sym (stands-entry (getD book k 0)) ∙ ap entry one
 
 -- the count of entries that are not none is that of the patterns

@@ -8,12 +8,13 @@ use lib.ListN.{length, getD}
 use Rattle.board.specs.Lists.{_among_, ones}
 use Rattle.board.specs.Board.{Board, inputs}
 use Rattle.board.specs.Row.{value}
-use Rattle.board.specs.Gate.{good, _at_, having, site, faulty}
+use Rattle.board.specs.Gate.{good, _at_, site, faulty}
 use Rattle.board.specs.Reach.{touched}
 use Rattle.board.specs.Test.{shows, Smallest, find}
 use Rattle.board.specs.Book.{lineFault, entry, answerIn}
 use Rattle.board.specs.declared.Fault.{Fault}
 use Rattle.board.specs.declared.Condition.{Condition}
+use Rattle.board.specs.declared.Condition.the-variants.{Having}
 use Rattle.image.specs.Image.{lineCount, recordAt, boardOf}
 use Rattle.image.specs.Refusals.{firstRefusal}
 use Rattle.image.specs.Promise.{numbers, Promise}
@@ -52,7 +53,7 @@ DifferSomewhere b φ x = (o : ℕ) × (o among (b .outs)) × (value (good x) b o
 
 -- of a fault on an image's board: the smallest pattern of the board's inputs that shows it, or none exactly where no pattern does
 abbrev pub SmallestTest : List ℕ → Fault → Option ℕ → Type 0
-SmallestTest s φ o = Smallest (shows (boardOf s) (having φ)) (2 ^ inputs (boardOf s)) o
+SmallestTest s φ o = Smallest (shows (boardOf s) (Having φ)) (2 ^ inputs (boardOf s)) o
 
 -- the whole book of an image's board: two numbers a line, each standing for that answer
 pub record WholeBook (s book : List ℕ) : Type 0 where

@@ -3,8 +3,8 @@ pub mod entries;
 pub mod said;
 mod search;
 
+use board::Condition;
 use board::Fault;
-use board::having;
 use entries::fill_book;
 use entries::then_book;
 use image::Checked;
@@ -36,7 +36,7 @@ pub fn find(img: &[u8], fault: Fault) -> Found
 {
     match check_fault(img, fault) {
         Checked::Refused(r) => Found::Refused(r),
-        Checked::Good(counts) => match smallest(img, counts, having(fault)) {
+        Checked::Good(counts) => match smallest(img, counts, Condition::Having(fault)) {
             Answer::At(p) => Found::Pattern(p as u64),
             Answer::Nothing => Found::Nothing,
         },

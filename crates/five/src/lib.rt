@@ -6,8 +6,8 @@ mod partial;
 pub mod said;
 mod table;
 
+use board::Condition;
 use board::Fault;
-use board::having;
 use count::count_driven;
 use fill::fill;
 use image::Checked;
@@ -34,7 +34,7 @@ pub fn five(img: &[u8], named: u64, values: u64, fault: Fault, row: &mut [u8]) -
     ) {
         Checked::Refused(r) => Driven::Refused(r),
         Checked::Good(_) => {
-            fill(img, named, values, having(fault), row);
+            fill(img, named, values, Condition::Having(fault), row);
             Driven::Count(count_driven(img, row))
         }
     }

@@ -15,7 +15,8 @@ use Rattle.board.specs.Gate.{gate, bitOf, heldPins, heldLine}
 use Rattle.board.specs.Inner.{heldAt}
 use Rattle.board.specs.Five.{goodHalf, faultyHalf, pair, fillings, agreed, everyFilling, gate5, hold5, five, partial}
 use Rattle.board.specs.declared.Condition.{Condition}
-use Rattle.board.specs.declared.Condition.the-variants.{Sound, Line, Pin}
+use Rattle.board.specs.declared.Fault.the-variants.{Line, Pin}
+use Rattle.board.specs.declared.Condition.the-variants.{Sound, Having}
 use Rattle.board.proofs.Lists.{way, build-length, build-at}
 use Rattle.five.specs.Inner.{Fives}
 use Rattle.five.proofs.Laws.Table.{getD-below}
@@ -50,8 +51,8 @@ partial-below named values i = cond-below (eqb (bitOf named i) 1) (lt-trans (mod
 
 line-below : (φ : Condition) (i v : ℕ) → v < 5 → heldLine hold5 φ i v < 5
 line-below Sound i v l = l
-line-below (Line m s) i v l = cond-below (eqb i m) (hold-below s v) l
-line-below (Pin m p s) i v l = l
+line-below (Having (Line m s)) i v l = cond-below (eqb i m) (hold-below s v) l
+line-below (Having (Pin m p s)) i v l = l
 
 rule-below : (φ : Condition) (named values i k : ℕ) (vs : List ℕ) → five φ (partial named values) i k vs < 5
 rule-below φ named values i k vs =

@@ -5,8 +5,8 @@ use mathlib.Core.List.{List, [], _∷_}
 use Prim.Native.Nat.{ℕ}
 use native.Mathlib.Nat.{not-suc-le-zero}
 use lib.ListN.{length, getD}
-use Rattle.board.specs.Gate.{having}
 use Rattle.board.specs.declared.Fault.{Fault}
+use Rattle.board.specs.declared.Condition.the-variants.{Having}
 use Rattle.image.specs.Image.{boardOf}
 use Rattle.image.specs.Refusals.{firstRefusal}
 use Rattle.image.specs.Promise.{answer, Promise, Owes}
@@ -45,7 +45,7 @@ unrefused {p} {left} {said} owes =
 
 module _ (s : List ℕ) (named values : ℕ) (φ : Fault) (old : List ℕ) where
   -- where none applies, the filler has what it asks
-  pub fillable : firstRefusal (fiveRefusals s named values φ (length old)) ≡ none → FiveFillable s (having φ) old
+  pub fillable : firstRefusal (fiveRefusals s named values φ (length old)) ≡ none → FiveFillable s (Having φ) old
   unfolding fiveRefusals faultRefusals
   fillable none-given =
       let (past-partial, long) = none-both (faultRefusals s φ then badPartial s named values) (badRow s (length old)) none-given in
@@ -59,9 +59,9 @@ module _ (s : List ℕ) (named values : ℕ) (φ : Fault) (old : List ℕ) where
 
   -- a count is that of the row, which is filled
   pub count-says : (n : ℕ) (new : List ℕ) → Owes (fivePromise s named values φ old) (new ∷ []) (drivenSays (Count n))
-      → FiveFillable s (having φ) old × (n ≡ driven (boardOf s) new) × (new ≡ fiveRow s (having φ) named values)
+      → FiveFillable s (Having φ) old × (n ≡ driven (boardOf s) new) × (new ≡ fiveRow s (Having φ) named values)
   count-says n new owes =
       let none-given = unrefused owes in
-      let filled : new ≡ fiveRow s (having φ) named values = cc (done-leaves owes none-given) in
-      let counted : n ≡ driven (boardOf s) (fiveRow s (having φ) named values) = cc (done-says owes none-given) in
+      let filled : new ≡ fiveRow s (Having φ) named values = cc (done-leaves owes none-given) in
+      let counted : n ≡ driven (boardOf s) (fiveRow s (Having φ) named values) = cc (done-says owes none-given) in
       (fillable none-given, rw filled counted, filled)

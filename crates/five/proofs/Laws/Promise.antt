@@ -12,11 +12,12 @@ use borrow.Author.Tests.{eqb-true, eqb-false}
 use Rattle.board.specs.Lists.{somewhere, bit, ones}
 use Rattle.board.specs.Board.{inputs, Low}
 use Rattle.board.specs.Row.{value}
-use Rattle.board.specs.Gate.{bitOf, good, having, faulty}
+use Rattle.board.specs.Gate.{bitOf, good, faulty}
 use Rattle.board.specs.Test.{differs, shows}
 use Rattle.board.specs.Five.{goodHalf, faultyHalf, five, partial, Completes}
 use Rattle.board.specs.declared.Fault.{Fault}
 use Rattle.board.specs.declared.Condition.{Condition}
+use Rattle.board.specs.declared.Condition.the-variants.{Having}
 use Rattle.board.proofs.Lists.{way, or-true, or-right, where-passes, passes-somewhere}
 use Rattle.board.proofs.Row.{row-at}
 use Rattle.board.proofs.Fine.{fine-low}
@@ -91,19 +92,19 @@ module _ (s : List ℕ) (named values : ℕ) (φ : Fault) (old : List ℕ) (n : 
     (owes : Owes (fivePromise s named values φ old) (new ∷ []) (drivenSays (Count n))) where
   -- wherever it says 0, 1, D or D-bar, every completion of the partial pattern has that pair of good and faulty values there
   pub settled-always : (x : ℕ) → Completes x named values → (i : ℕ) → i < lineCount s → (getD new i 0 ≡ 2 → ⊥)
-      → (goodHalf (getD new i 0) ≡ value (good x) (boardOf s) i) × (faultyHalf (getD new i 0) ≡ value (faulty (having φ) x) (boardOf s) i)
+      → (goodHalf (getD new i 0) ≡ value (good x) (boardOf s) i) × (faultyHalf (getD new i 0) ≡ value (faulty (Having φ) x) (boardOf s) i)
   settled-always =
       let (fills, count, filled) = count-says s named values φ old n new owes in
-      rw filled (row-settled s (fills .ok) (having φ) (fills .condition) named values)
+      rw filled (row-settled s (fills .ok) (Having φ) (fills .condition) named values)
 
   -- so a count above 0 means that every completion shows the fault
-  pub count-shows : 0 < n → (x : ℕ) → Completes x named values → shows (boardOf s) (having φ) x ≡ true
+  pub count-shows : 0 < n → (x : ℕ) → Completes x named values → shows (boardOf s) (Having φ) x ≡ true
   count-shows some =
       let (fills, count, filled) = count-says s named values φ old n new owes in
-      row-shows s (fills .ok) (having φ) (fills .condition) named values (rw (count, filled) at some)
+      row-shows s (fills .ok) (Having φ) (fills .condition) named values (rw (count, filled) at some)
 
   -- and where no input is left unnamed no line is x
   pub named-settled : ((i : ℕ) → i < inputs (boardOf s) → bitOf named i ≡ 1) → (i : ℕ) → i < lineCount s → getD new i 0 ≡ 2 → ⊥
   named-settled =
       let (fills, count, filled) = count-says s named values φ old n new owes in
-      rw filled (row-named s (fills .ok) (having φ) (fills .condition) named values)
+      rw filled (row-named s (fills .ok) (Having φ) (fills .condition) named values)
