@@ -8,9 +8,9 @@ use lib.ListN.{length, getD}
 use Rattle.board.specs.Lists.{on, build}
 use Rattle.board.specs.Board.{Board}
 use Rattle.board.specs.Test.{find}
-use Rattle.board.specs.Book.{entry, found}
+use Rattle.board.specs.Book.{faultAt, entry, found}
 use Rattle.board.specs.Gate.{site}
-use Rattle.board.specs.declared.Condition.{Condition}
+use Rattle.board.specs.declared.Sort.{Sort}
 use Rattle.image.specs.Image.{boardOf}
 use Rattle.image.specs.Inner.{Known, OnBoard}
 use Rattle.image.specs.declared.Counts.{Counts}
@@ -22,16 +22,15 @@ abbrev pub answered : Answer → Option ℕ
 answered (At p) = some p
 answered Nothing = none
 
--- a book's numbering: the fault of each entry
-module _ (faultAt : ℕ → Condition) where
+module _ (sort : Sort) where
   -- what renewing a book asks: an accepted image with its counts, and faults of its board
   pub record Renewable (s : List ℕ) (c : Counts) (book : List ℕ) : Type 0 where
     pub known : Known s c
-    pub faults : (k : ℕ) → k < length book → OnBoard s (faultAt k)
+    pub faults : (k : ℕ) → k < length book → OnBoard s (faultAt sort k)
 
   -- entry k: Find's answer where its line is marked in a row, its old number where it is not
   unfoldable pub reworkedEntry : Board → List ℕ → List ℕ → ℕ → ℕ
-  reworkedEntry b marks old k = cond (on (getD marks (site (faultAt k)) 0)) (entry (find b (faultAt k))) (getD old k 0)
+  reworkedEntry b marks old k = cond (on (getD marks (site (faultAt sort k)) 0)) (entry (find b (faultAt sort k))) (getD old k 0)
 
   -- the book reworked by a row of marks
   abbrev pub reworked : Board → List ℕ → List ℕ → List ℕ

@@ -2,6 +2,9 @@
 use crate::search::Answer;
 use crate::search::smallest;
 use board::Condition;
+use board::Sort;
+use board::entries_a_line;
+use board::fault_at;
 use board::site_of;
 use image::Checked;
 use image::Counts;
@@ -11,6 +14,7 @@ use image::limits::Entry;
 use image::limits::MOST_LINES;
 use image::limits::NONE;
 use image::numbers::byte;
+use image::pins::is_absent;
 ghost use mathlib.Core.Path.{_≡_};
 ghost use mathlib.Core.Option.{Option};
 ghost use mathlib.Core.Bool.{cond};
@@ -19,7 +23,7 @@ ghost use Prim.Native.Nat.{ℕ, _*_, _<_};
 ghost use lib.ListN.{length, getD};
 ghost use Rattle.board.specs.Limits.{mostLines};
 ghost use Rattle.board.specs.Test.{find as smallestOf};
-ghost use Rattle.board.specs.Book.{lineFault, entry, found};
+ghost use Rattle.board.specs.Book.{entriesALine, entry, found};
 ghost use Rattle.image.specs.Image.{lineCount, boardOf};
 ghost use Rattle.image.specs.Calls.{_then_};
 ghost use Rattle.image.specs.Inner.{Known, OnBoard, Past};
@@ -28,24 +32,20 @@ ghost use Rattle.find.specs.Inner.{answered, Renewable, Renewed};
 ghost use Rattle.find.specs.Book.{badBook, bookOf};
 
 // Those that were tested, then 9 for a book of so many numbers.
-pub fn then_book(tested: Checked, numbers: usize) -> Checked
-    ensures { λ r. ⌜ ((rs : List (Option RefusalOf)) (s : List ℕ) → Past rs s tested → Past (rs then badBook s numbers) s r) ⌝ }
+pub fn then_book(tested: Checked, sort: Sort, numbers: usize) -> Checked
+    ensures { λ r. ⌜ ((rs : List (Option RefusalOf)) (s : List ℕ) → Past rs s tested → Past (rs then badBook sort s numbers) s r) ⌝ }
 {
     match tested {
         Checked::Refused(r) => Checked::Refused(r),
-        Checked::Good(counts) => refused_if(
-            (numbers % 2 != 0) | (numbers / 2 != counts.lines),
-            Refusal::Lent,
-            counts,
-        ),
+        Checked::Good(counts) => {
+            let each = entries_a_line(sort);
+            refused_if(
+                (numbers % each != 0) | (numbers / each != counts.lines),
+                Refusal::Lent,
+                counts,
+            )
+        }
     }
-}
-
-// The fault of entry k: entry 2 x line + stuck value.
-fn fault_at(k: usize) -> Condition
-    ensures { λ r. ⌜ r ≡ lineFault k ⌝ }
-{
-    Condition::Line(k / 2, (k % 2) as u8)
 }
 
 // The number in a book for an answer.
@@ -58,26 +58,37 @@ fn entry_of(a: Answer) -> Entry
     }
 }
 
-// A fault's entry: searched where its line is marked, and its old number where it is not.
+// The answer for a fault; that of an absent pin is nothing, without a search.
+fn answer_of(img: &[u8], counts: Counts, condition: Condition) -> Answer
+    requires { ⌜ Known (now img) counts × OnBoard (now img) condition ⌝ }
+    ensures { λ r. ⌜ answered r ≡ smallestOf (boardOf (now (img .entry))) condition ⌝ }
+{
+    if is_absent(img, condition) {
+        return Answer::Nothing;
+    }
+    smallest(img, counts, condition)
+}
+
+// A fault's entry: worked out where its line is marked, and its old number where it is not.
 fn renew_entry(img: &[u8], counts: Counts, condition: Condition, marked: bool, old: Entry) -> Entry
     requires { ⌜ Known (now img) counts × OnBoard (now img) condition ⌝ }
     ensures { λ r. ⌜ r ≡ cond marked (entry (smallestOf (boardOf (now (img .entry))) condition)) old ⌝ }
 {
     if marked {
-        return entry_of(smallest(img, counts, condition));
+        return entry_of(answer_of(img, counts, condition));
     }
     old
 }
 
 // Works out the entries of the lines that are marked in a row, keeps the others, and gives how many are then not none.
-pub fn renew(img: &[u8], counts: Counts, marks: &[u8], book: &mut [Entry]) -> usize
-    requires { ⌜ Renewable lineFault (now img) counts (now book) ⌝ }
-    ensures { λ r. ⌜ Renewed lineFault (now (img .entry)) (now (marks .entry)) (now (book .entry)) r (now (book .exit)) ⌝ }
+pub fn renew(img: &[u8], counts: Counts, sort: Sort, marks: &[u8], book: &mut [Entry]) -> usize
+    requires { ⌜ Renewable sort (now img) counts (now book) ⌝ }
+    ensures { λ r. ⌜ Renewed sort (now (img .entry)) (now (marks .entry)) (now (book .entry)) r (now (book .exit)) ⌝ }
 {
     let mut count = 0;
     let mut k = 0;
     while k < book.len() {
-        let fault = fault_at(k);
+        let fault = fault_at(sort, k);
         let marked = 0 < byte(marks, site_of(fault));
         let e = renew_entry(img, counts, fault, marked, book[k]);
         book[k] = e;
@@ -95,10 +106,10 @@ fn every_line() -> [u8; MOST_LINES]
 }
 
 // Works out every entry, and gives how many are not none.
-pub fn fill_book(img: &[u8], counts: Counts, book: &mut [Entry]) -> usize
-    requires { ⌜ Known (now img) counts × (length (now book) ≡ 2 * lineCount (now img)) ⌝ }
-    ensures { λ r. ⌜ (now (book .exit) ≡ bookOf (now (img .entry))) × (r ≡ found (bookOf (now (img .entry)))) ⌝ }
+pub fn fill_book(img: &[u8], counts: Counts, sort: Sort, book: &mut [Entry]) -> usize
+    requires { ⌜ Known (now img) counts × (length (now book) ≡ entriesALine sort * lineCount (now img)) ⌝ }
+    ensures { λ r. ⌜ (now (book .exit) ≡ bookOf sort (now (img .entry))) × (r ≡ found (bookOf sort (now (img .entry)))) ⌝ }
 {
     let every = every_line();
-    renew(img, counts, &every, book)
+    renew(img, counts, sort, &every, book)
 }

@@ -1,10 +1,11 @@
-// The smallest pattern that shows a fault, and the book of them all: Find and Book.
+// The smallest pattern that shows a fault, and the books of them all: Find, Book and the pin book.
 pub mod entries;
 pub mod said;
 mod search;
 
 use board::Condition;
 use board::Fault;
+use board::Sort;
 use entries::fill_book;
 use entries::then_book;
 use image::Checked;
@@ -15,6 +16,7 @@ use image::limits::Entry;
 use search::Answer;
 use search::smallest;
 ghost use mathlib.Core.List.{[], _∷_};
+ghost use Rattle.board.specs.declared.Sort.the-variants.{Lines, Pins};
 ghost use Rattle.image.specs.Promise.{Owes};
 ghost use Rattle.find.specs.Find.{foundSays, findPromise};
 ghost use Rattle.find.specs.Book.{countedSays, bookPromise};
@@ -43,12 +45,26 @@ pub fn find(img: &[u8], fault: Fault) -> Found
     }
 }
 
+// A book of a sort filled, once it is as long as it should be.
+fn book_of(img: &[u8], sort: Sort, entries: &mut [Entry]) -> Counted
+    ensures { λ r. ⌜ Owes (bookPromise sort (now (img .entry)) (now (entries .entry))) (now (entries .exit) ∷ []) (countedSays r) ⌝ }
+{
+    match then_book(check_image(img), sort, entries.len()) {
+        Checked::Refused(r) => Counted::Refused(r),
+        Checked::Good(counts) => Counted::Entries(fill_book(img, counts, sort, entries)),
+    }
+}
+
 // Book: fills entry 2 x line + stuck value with that pattern, or NONE, and counts the entries that are not none.
 pub fn book(img: &[u8], entries: &mut [Entry]) -> Counted
-    ensures { λ r. ⌜ Owes (bookPromise (now (img .entry)) (now (entries .entry))) (now (entries .exit) ∷ []) (countedSays r) ⌝ }
+    ensures { λ r. ⌜ Owes (bookPromise Lines (now (img .entry)) (now (entries .entry))) (now (entries .exit) ∷ []) (countedSays r) ⌝ }
 {
-    match then_book(check_image(img), entries.len()) {
-        Checked::Refused(r) => Counted::Refused(r),
-        Checked::Good(counts) => Counted::Entries(fill_book(img, counts, entries)),
-    }
+    book_of(img, Sort::Lines, entries)
+}
+
+// Pin book: fills entry 8 x line + 2 x pin + stuck value in the same way, an absent pin's with NONE.
+pub fn pin_book(img: &[u8], entries: &mut [Entry]) -> Counted
+    ensures { λ r. ⌜ Owes (bookPromise Pins (now (img .entry)) (now (entries .entry))) (now (entries .exit) ∷ []) (countedSays r) ⌝ }
+{
+    book_of(img, Sort::Pins, entries)
 }

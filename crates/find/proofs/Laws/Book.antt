@@ -1,9 +1,9 @@
--- A book that is renewed entry by entry: one entry more, counted as it is written, and the whole; two numbers a line are faults of the board.
-use mathlib.Core.Path.{_≡_}
+-- A book that is renewed entry by entry: one entry more, counted as it is written, and the whole; a whole book's entries are faults of the board.
+use mathlib.Core.Path.{_≡_, refl}
 use mathlib.Core.Logic.{⊎-elim}
 use mathlib.Core.List.{List, [], _∷_, _++_}
 use mathlib.Core.Bool.{true, false, not, _||_}
-use Prim.Native.Nat.{ℕ, _+_, _*_, _/_, _%_, _<_}
+use Prim.Native.Nat.{ℕ, _+_, _*_, _/_, _%_, _≤_, _<_}
 use native.Mathlib.Numerals.{add-one}
 use native.Mathlib.Omega.{arith}
 use lib.Dec.{eqb}
@@ -12,12 +12,16 @@ use lib.Seq.{take-suc-set}
 use borrow.Author.Tests.{eqb-true, eqb-false, eq-eqb, ne-eqb}
 use Rattle.board.specs.Lists.{bit}
 use Rattle.board.specs.Limits.{mostLines, noneMark}
-use Rattle.board.specs.Book.{lineFault, found}
+use Rattle.board.specs.Gate.{site}
+use Rattle.board.specs.Book.{entriesALine, faultAt, found}
+use Rattle.board.specs.declared.Sort.{Sort}
+use Rattle.board.specs.declared.Sort.the-variants.{Lines, Pins}
 use Rattle.board.proofs.Lists.{way, build-same}
 use Rattle.image.specs.Image.{lineCount, boardOf}
 use Rattle.image.specs.Refusals.{Accepted}
 use Rattle.image.specs.Inner.{OnBoard}
 use Rattle.image.proofs.Laws.Fine.{lines-few}
+use Rattle.image.proofs.Laws.Records.{bit-below}
 use Rattle.find.specs.Inner.{reworkedEntry, reworked}
 use Rattle.find.specs.Book.{bookOf}
 
@@ -30,28 +34,43 @@ pub found-next : (book : List ℕ) (k e count more : ℕ) → k < length book �
     → count + more ≡ found (take (k + 1) (set book k e))
 found-next book k e count more l h q = rw (add-one, take-suc-set book k e l, found-end, h, q)
 
--- n numbers are not two a line: it is odd, or half of it is not the lines
-pub not-two-a-line : (n lines : ℕ) → (not (eqb (n % 2) 0) || not (eqb (n / 2) lines)) ≡ not (eqb n (2 * lines))
-not-two-a-line n lines =
+-- n numbers are not so many a line: some are left over, or there are not as many shares as lines
+not-so-many : (each n lines : ℕ) → (n ≡ each * lines → (n % each ≡ 0) × (n / each ≡ lines)) → (n % each ≡ 0 → n / each ≡ lines → n ≡ each * lines)
+    → (not (eqb (n % each) 0) || not (eqb (n / each) lines)) ≡ not (eqb n (each * lines))
+not-so-many each n lines there back =
     ⊎-elim
-    (λ (e : eqb n (2 * lines) ≡ true).
-    let is = eqb-true n (2 * lines) e in
-    rw (e, eq-eqb (n % 2) 0 (omega arith), eq-eqb (n / 2) lines (omega arith)))
-    (λ (e : eqb n (2 * lines) ≡ false).
-    let is-not = eqb-false n (2 * lines) e in
+    (λ (e : eqb n (each * lines) ≡ true).
+    let (whole, shares) = there (eqb-true n (each * lines) e) in
+    rw (e, eq-eqb (n % each) 0 whole, eq-eqb (n / each) lines shares))
+    (λ (e : eqb n (each * lines) ≡ false).
     ⊎-elim
-    (λ (o : eqb (n % 2) 0 ≡ true). let even = eqb-true (n % 2) 0 o in rw (e, o, ne-eqb (n / 2) lines (λ q. is-not (omega arith))))
-    (λ (o : eqb (n % 2) 0 ≡ false). rw (e, o))
-    (way (eqb (n % 2) 0)))
-    (way (eqb n (2 * lines)))
+    (λ (o : eqb (n % each) 0 ≡ true).
+    rw (e, o, ne-eqb (n / each) lines (λ q. eqb-false n (each * lines) e (back (eqb-true (n % each) 0 o) q))))
+    (λ (o : eqb (n % each) 0 ≡ false). rw (e, o))
+    (way (eqb (n % each) 0)))
+    (way (eqb n (each * lines)))
 
--- each entry of two numbers a line has a fault of the board
-pub on-lines : (s : List ℕ) (n k : ℕ) → n ≡ 2 * lineCount s → k < n → OnBoard s (lineFault k)
-on-lines s n k e l = record { inside = omega arith; held = omega arith }
+-- as a lent book is tested
+pub not-a-book : (sort : Sort) (n lines : ℕ) → let each = entriesALine sort in
+    (not (eqb (n % each) 0) || not (eqb (n / each) lines)) ≡ not (eqb n (each * lines))
+not-a-book Lines n lines = not-so-many 2 n lines (λ e. (omega arith, omega arith)) (λ whole shares. omega arith)
+not-a-book Pins n lines = not-so-many 8 n lines (λ e. (omega arith, omega arith)) (λ whole shares. omega arith)
+
+-- each entry of a book has a fault of the board
+pub on-lines : (sort : Sort) (s : List ℕ) (n k : ℕ) → n ≡ entriesALine sort * lineCount s → k < n → OnBoard s (faultAt sort k)
+on-lines Lines s n k e l = record { inside = omega arith; held = omega arith }
+on-lines Pins s n k e l = record { inside = omega arith; held = omega arith }
 
 -- where every line is marked, a reworked book is a fresh one
-pub all-reworked : (s book : List ℕ) → Accepted s → length book ≡ 2 * lineCount s → (every : List ℕ) → ((l : ℕ) → l < mostLines → getD every l 0 ≡ 1)
-    → reworked lineFault (boardOf s) every book ≡ bookOf s
+pub all-reworked : (sort : Sort) (s book : List ℕ) → Accepted s → length book ≡ entriesALine sort * lineCount s → (every : List ℕ)
+    → ((l : ℕ) → l < mostLines → getD every l 0 ≡ 1) → reworked sort (boardOf s) every book ≡ bookOf sort s
 unfolding reworkedEntry bookOf
-all-reworked s book ok long every marked =
-    rw long (build-same _ _ (2 * lineCount s) (λ k done l. rw (marked (k / 2) (omega (arith, l, lines-few s ok)))))
+all-reworked sort s book ok long every marked =
+    rw long (build-same _ _ (entriesALine sort * lineCount s) (λ k done l.
+    let inside = on-lines sort s (entriesALine sort * lineCount s) k refl l .inside in
+    rw (marked (site (faultAt sort k)) (omega (arith, inside, lines-few s ok)))))
+
+-- no more entries are counted than there are
+pub found-few : (book : List ℕ) → found book ≤ length book
+found-few [] = omega arith
+found-few (e ∷ es) = omega (arith, found-few es, bit-below (not (eqb e noneMark)))

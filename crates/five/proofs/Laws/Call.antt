@@ -10,11 +10,11 @@ use Rattle.board.specs.declared.Condition.the-variants.{Having}
 use Rattle.image.specs.Image.{boardOf}
 use Rattle.image.specs.Refusals.{firstRefusal}
 use Rattle.image.specs.Promise.{answer, Promise, Owes}
-use Rattle.image.specs.Calls.{_then_, badStuck, badRow, lineRefusals, faultRefusals}
+use Rattle.image.specs.Calls.{_then_, badRow, faultRefusals}
 use Rattle.image.specs.declared.Refusal.{Refusal}
 use Rattle.image.proofs.Laws.Answer.{none-both}
 use Rattle.image.proofs.Laws.Promise.{read-back, refused-again, number-over, Told, told, done-leaves, done-says}
-use Rattle.image.proofs.Laws.Calls.{line-accepted, fault-accepted, row-long}
+use Rattle.image.proofs.Laws.Calls.{fault-accepted, row-long}
 use Rattle.five.specs.Partial.{badPartial}
 use Rattle.five.specs.Driven.{driven}
 use Rattle.five.specs.Five.{drivenSays, fiveRefusals, fiveRow, fivePromise}
@@ -46,16 +46,12 @@ unrefused {p} {left} {said} owes =
 module _ (s : List ℕ) (named values : ℕ) (φ : Fault) (old : List ℕ) where
   -- where none applies, the filler has what it asks
   pub fillable : firstRefusal (fiveRefusals s named values φ (length old)) ≡ none → FiveFillable s (Having φ) old
-  unfolding fiveRefusals faultRefusals
+  unfolding fiveRefusals
   fillable none-given =
       let (past-partial, long) = none-both (faultRefusals s φ then badPartial s named values) (badRow s (length old)) none-given in
       let past-fault = none-both (faultRefusals s φ) (badPartial s named values) past-partial .0 in
-      let past-line = none-both (lineRefusals s (φ .line)) (badStuck (φ .stuck)) past-fault .0 in
-      record {
-        ok = line-accepted s (φ .line) past-line .0;
-        condition = fault-accepted s φ past-fault;
-        long = row-long s (length old) long;
-      }
+      let (ok, on-board) = fault-accepted s φ past-fault in
+      record { ok = ok; condition = on-board; long = row-long s (length old) long }
 
   -- a count is that of the row, which is filled
   pub count-says : (n : ℕ) (new : List ℕ) → Owes (fivePromise s named values φ old) (new ∷ []) (drivenSays (Count n))

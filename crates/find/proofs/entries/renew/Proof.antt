@@ -9,7 +9,7 @@ use lib.Dec.{eqb}
 use lib.ListN.{length, take}
 use lib.Seq.{take-all}
 use Rattle.board.specs.Limits.{noneMark}
-use Rattle.board.specs.Book.{lineFault, found}
+use Rattle.board.specs.Book.{found}
 use Rattle.board.proofs.Filling.{Filling, begun, stored-next, built}
 use Rattle.image.specs.Image.{boardOf}
 use Rattle.image.proofs.Laws.Records.{bit-below}
@@ -20,17 +20,17 @@ use Rattle.find.proofs.entries.renew.Statement.{statement}
 use Rattle.find.proofs.entries.renew.Tie as tie
 
 abbrev Inv-loop : tie.InvT-loop
-Inv-loop img counts marks book₀ count₀ k₀ book count k =
-    Filling (λ j done. reworkedEntry lineFault (boardOf img) marks book₀ j) [] book₀ k book × (count ≤ k) × (count ≡ found (take k book))
+Inv-loop img counts sort marks book₀ count₀ k₀ book count k =
+    Filling (λ j done. reworkedEntry sort (boardOf img) marks book₀ j) [] book₀ k book × (count ≤ k) × (count ≡ found (take k book))
 
 abbrev μ-loop : tie.MeasureT-loop
-μ-loop img counts marks book₀ count₀ k₀ book count k = length book₀ - k
+μ-loop img counts sort marks book₀ count₀ k₀ book count k = length book₀ - k
 
 -- the new number of entry k
 entry-is : (c : tie.After-renew-entry Inv-loop μ-loop) →
     let at-loop = c .before .before .before .before .before .before in
     let a = at-loop .before .before .before .before .args in
-    c .renew-entry .result ≡ reworkedEntry lineFault (boardOf (a .img .now)) (a .marks .now) (a .book .now) (at-loop .loop .k)
+    c .renew-entry .result ≡ reworkedEntry (a .sort) (boardOf (a .img .now)) (a .marks .now) (a .book .now) (at-loop .loop .k)
 unfolding reworkedEntry
 entry-is c =
     let at-loop = c .before .before .before .before .before .before in
