@@ -2,7 +2,7 @@
 use bytes::copy;
 use image::numbers::byte;
 use image::records::is_bad_field;
-use image::trailer::first_record;
+use image::trailer::record_place;
 ghost use mathlib.Core.Path.{_≡_};
 ghost use Prim.Native.Nat.{_+_, _<_, _≤_};
 ghost use lib.ListN.{length};
@@ -22,14 +22,6 @@ fn would_be_bad(new: &[u8], line: usize, inputs: usize) -> bool
         field += 1;
     }
     false
-}
-
-// Where a line's record stands.
-fn record_place(img: &[u8], line: usize) -> usize
-    requires { ⌜ line < 65536 ⌝ }
-    ensures { λ r. ⌜ r ≡ recordPlace (now (img .entry)) line ⌝ }
-{
-    first_record(img) + 10 * line
 }
 
 // Refusal 10.

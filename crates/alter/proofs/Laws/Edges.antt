@@ -2,10 +2,10 @@
 -- that reaches no output touches nothing, before or after.
 use mathlib.Core.Path.{_≡_, sym, ap, _∙_}
 use mathlib.Core.Logic.{⊎-elim}
-use mathlib.Core.Option.{none}
+use mathlib.Core.Option.{Option, none}
 use mathlib.Core.List.{List}
 use mathlib.Core.Bool.{Bool, false, not, _&&_}
-use Prim.Native.Nat.{ℕ, _+_, _*_, _/_, _<_}
+use Prim.Native.Nat.{ℕ, _+_, _*_, _<_}
 use native.Mathlib.Omega.{arith}
 use lib.Dec.{eqb, leb, lit<}
 use lib.ListN.{length, getD, take, drop}
@@ -13,8 +13,11 @@ use lib.Seq.{ext-getD, getD-take, getD-drop}
 use borrow.Author.Tests.{eq-eqb, ne-eqb, lt-leb}
 use Rattle.board.specs.Lists.{_among_, somewhere}
 use Rattle.board.specs.Board.{Board, inputs, leading, altered}
-use Rattle.board.specs.Book.{lineFault, renewed}
+use Rattle.board.specs.Gate.{site}
+use Rattle.board.specs.Book.{entriesALine, faultAt, renewed}
 use Rattle.board.specs.Reach.{reach, meets, touched}
+use Rattle.board.specs.declared.Sort.{Sort}
+use Rattle.board.specs.declared.Sort.the-variants.{Lines, Pins}
 use Rattle.board.proofs.Lists.{way, clash, where-passes, nowhere-at, build-length, build-at}
 use Rattle.board.proofs.Fine.{fine-low, fine-altered}
 use Rattle.board.proofs.Test.{reach-altered}
@@ -22,13 +25,13 @@ use Rattle.image.specs.Bytes.{byteAt, wordAt}
 use Rattle.image.specs.Image.{lineCount, firstRecord, recordPlace, recordAt, records, boardOf}
 use Rattle.image.specs.Refusals.{badField, imageRefusals, firstRefusal, Accepted}
 use Rattle.image.specs.Calls.{_then_, lineRefusals}
+use Rattle.image.specs.declared.Refusal.{Refusal}
 use Rattle.image.specs.declared.Refusal.the-variants.{Line, Lent, Alteration}
 use Rattle.image.proofs.Laws.Answer.{next-skip}
 use Rattle.image.proofs.Laws.Fine.{passed, field-good, accepted-fine}
 use Rattle.find.specs.Book.{badBook}
 use Rattle.alter.specs.Patch.{fields, unfit}
-use Rattle.alter.specs.Alter.{broughtUp}
-use Rattle.alter.specs.Alter.{alterRefusals}
+use Rattle.alter.specs.Alter.{Books, broughtUp, alterRefusals}
 use Rattle.alter.proofs.Laws.Refused.{Fit, any-inputs, field-at, takes}
 use Rattle.alter.proofs.Laws.Board.{Same, same-field}
 
@@ -76,12 +79,16 @@ module _ (s : List ℕ) (line : ℕ) (ok : Accepted s) (inside : line < lineCoun
         ∙ field-good s (passed s ok) line f inside l))
 
     -- an alteration of a gate to its own record is accepted
-    pub same-accepted : (book : List ℕ) → length book ≡ 2 * lineCount s → firstRefusal (alterRefusals s book line (own s (recordPlace s line))) ≡ none
+    pub same-accepted : (books : Books) → ((sort : Sort) → length (books sort) ≡ entriesALine sort * lineCount s)
+        → firstRefusal (alterRefusals s books line (own s (recordPlace s line))) ≡ none
     unfolding alterRefusals lineRefusals
-    same-accepted book long =
+    same-accepted books long =
         let named = next-skip (imageRefusals s) ok (leb (lineCount s) line) Line (lt-leb _ _ inside) in
-        let whole = next-skip (lineRefusals s line) named (not (eqb (length book) (2 * lineCount s))) Lent (ap not (eq-eqb _ _ long)) in
-        next-skip (lineRefusals s line then badBook s (length book)) whole (unfit s line (own s (recordPlace s line))) Alteration own-good
+        let whole : (rs : List (Option Refusal)) (sort : Sort) → firstRefusal rs ≡ none → firstRefusal (rs then badBook sort s (length (books sort))) ≡ none =
+        λ rs sort known. next-skip rs known (not (eqb (length (books sort)) (entriesALine sort * lineCount s))) Lent (ap not (eq-eqb _ _ (long sort))) in
+        let lines = lineRefusals s line then badBook Lines s (length (books Lines)) in
+        let lent = whole lines Pins (whole (lineRefusals s line) Lines named) in
+        next-skip (lines then badBook Pins s (length (books Pins))) lent (unfit s line (own s (recordPlace s line))) Alteration own-good
 
   -- an altered line that reaches no output touches nothing
   module _ (new : List ℕ) (fits : Fit s line new) (alone : (o : ℕ) → o among (boardOf s .outs) → reach (boardOf s) line o ≡ false) where
@@ -95,11 +102,12 @@ module _ (s : List ℕ) (line : ℕ) (ok : Accepted s) (inside : line < lineCoun
         let later = fine-low (altered b line r) (fine-altered b line r fine (takes s line new inside fits)) in
         rw (meets-none b line l alone, meets-none (altered b line r) line l (λ o m. sym (reach-altered b line r low later o) ∙ alone o m))
 
-    pub nothing-renewed : (book : List ℕ) → broughtUp s book line new ≡ book
+    pub nothing-renewed : (books : Books) (sort : Sort) → broughtUp s books line new sort ≡ books sort
     unfolding broughtUp renewed
-    nothing-renewed book =
+    nothing-renewed books sort =
         let b = boardOf s in
         let r = recordAt new 0 in
-        let f : ℕ → List ℕ → ℕ = λ k done. renewed b line r (lineFault k) (getD book k 0) in
-        ext-getD 0 (broughtUp s book line new) book (build-length f (length book)) (λ k l.
-        build-at f (length book) k (rw (build-length f (length book)) at l) ∙ rw (nothing-touched (k / 2)))
+        let book = books sort in
+        let f : ℕ → List ℕ → ℕ = λ k done. renewed b line r (faultAt sort k) (getD book k 0) in
+        ext-getD 0 (broughtUp s books line new sort) book (build-length f (length book)) (λ k l.
+        build-at f (length book) k (rw (build-length f (length book)) at l) ∙ rw (nothing-touched (site (faultAt sort k))))

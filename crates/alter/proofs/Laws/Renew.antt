@@ -1,15 +1,18 @@
--- A book that is renewed by the marks of the board before and of the board after is brought up to date: a line is marked exactly when a fault
+-- Books that are renewed by the marks of the board before and of the board after are brought up to date: a line is marked exactly when a fault
 -- on it is touched.
 use mathlib.Core.Path.{_≡_, refl, ap, _∙_}
 use mathlib.Core.List.{List}
 use mathlib.Core.Bool.{Bool, true, false, _||_}
-use Prim.Native.Nat.{ℕ, _+_, _/_, _≤_, _<_}
+use Prim.Native.Nat.{ℕ, _+_, _≤_, _<_}
 use native.Mathlib.Omega.{arith}
 use lib.ListN.{length, getD}
 use Rattle.board.specs.Lists.{bit, on}
 use Rattle.board.specs.Board.{Board, altered}
 use Rattle.board.specs.Reach.{meets, touched}
-use Rattle.board.specs.Book.{lineFault, renewed, found}
+use Rattle.board.specs.Gate.{site}
+use Rattle.board.specs.Book.{faultAt, renewed, found}
+use Rattle.board.specs.declared.Sort.{Sort}
+use Rattle.board.specs.declared.Sort.the-variants.{Lines, Pins}
 use Rattle.board.proofs.Lists.{build-length, build-at, build-same}
 use Rattle.image.specs.Image.{lineCount, recordPlace, recordAt, boardOf}
 use Rattle.image.specs.Inner.{Known}
@@ -19,7 +22,7 @@ use Rattle.find.specs.Inner.{reworkedEntry, reworked, Renewable, Renewed}
 use Rattle.find.proofs.Laws.Book.{on-lines}
 use Rattle.alter.specs.Patch.{patched}
 use Rattle.alter.specs.Inner.{withMet, Reworkable, Reworked}
-use Rattle.alter.specs.Alter.{broughtUp}
+use Rattle.alter.specs.Alter.{Books, both, broughtUp}
 use Rattle.alter.proofs.Laws.Patch.{record-fits}
 use Rattle.alter.proofs.Laws.Refused.{Fit, fit}
 use Rattle.alter.proofs.Laws.Board.{board-is, same-lines, still-known}
@@ -39,7 +42,7 @@ module _ (b : Board) (a : ℕ) (marks : List ℕ) where
   met-at l h = ap on (build-at (λ k before. bit (on (getD marks k 0) || meets b a k)) (length marks) l h) ∙ on-bit (on (getD marks l 0) || meets b a l)
 
 -- putting a record in, step by step: what each step asks, and what they leave together
-module _ {s : List ℕ} {c : Counts} {line : ℕ} {new book : List ℕ} (asked : Reworkable s c line new book) where
+module _ {s : List ℕ} {c : Counts} {line : ℕ} {new : List ℕ} {books : Books} (asked : Reworkable s c line new books) where
   fits : Fit s line new
   fits = fit s line new (asked .fine)
 
@@ -54,26 +57,40 @@ module _ {s : List ℕ} {c : Counts} {line : ℕ} {new book : List ℕ} (asked :
     pub known-after : Known t c
     known-after = rw put (still-known s line new (asked .ten) (asked .known .ok) (asked .inside) fits (asked .known))
 
-    pub renews-after : Renewable lineFault t c book
-    renews-after =
+    pub renews-after : (sort : Sort) → Renewable sort t c (books sort)
+    renews-after sort =
         let same = same-lines s line new (asked .ten) (asked .known .ok) (asked .inside) in
-        record { known = known-after; faults = λ k l. on-lines t (length book) k (rw (put, same) (asked .long)) l }
+        record { known = known-after; faults = λ k l. on-lines sort t (length (books sort)) k (rw (put, same) (asked .long sort)) l }
 
     module _ (bare : List ℕ) (none-marked : (l : ℕ) → getD bare l 0 ≡ 0) (room : length bare ≡ lineCount s) where
-      -- by the marks of both boards the book is brought up to date
-      brought : reworked lineFault (boardOf t) (withMet (boardOf t) line (withMet (boardOf s) line bare)) book ≡ broughtUp s book line new
+      -- by the marks of both boards a book is brought up to date
+      brought : (sort : Sort)
+          → reworked sort (boardOf t) (withMet (boardOf t) line (withMet (boardOf s) line bare)) (books sort) ≡ broughtUp s books line new sort
       unfolding broughtUp reworkedEntry renewed touched
-      brought =
+      brought sort =
           let b = boardOf s in
           let after = altered b line (recordAt new 0) in
           rw (ap boardOf put ∙ board-is s line new (asked .ten) (asked .known .ok) (asked .inside) fits)
-          (build-same _ _ (length book) (λ k done h.
-          let first : k / 2 < length bare = omega (arith, h, asked .long, room) in
-          let second : k / 2 < length (withMet b line bare) = rw (met-length b line bare) first in
-          rw (met-at after line (withMet b line bare) (k / 2) second, met-at b line bare (k / 2) first, none-marked (k / 2))))
+          (build-same _ _ (length (books sort)) (λ k done h.
+          let l = site (faultAt sort k) in
+          let first : l < length bare = rw room (on-lines sort s (length (books sort)) k (asked .long sort) h .inside) in
+          let second : l < length (withMet b line bare) = rw (met-length b line bare) first in
+          rw (met-at after line (withMet b line bare) l second, met-at b line bare l first, none-marked l)))
 
-      pub all-done : (marks later : List ℕ) (r : ℕ) → marks ≡ withMet (boardOf t) line (withMet (boardOf s) line bare)
-          → Renewed lineFault t marks book r later → Reworked s line new book r t later
-      all-done marks later r e left =
-          let is = ap (λ (row : List ℕ). reworked lineFault (boardOf t) row book) e ∙ brought in
-          record { image = put; book-is = left .book ∙ is; count = left .count ∙ ap found is }
+      module _ (marks : List ℕ) (marked : marks ≡ withMet (boardOf t) line (withMet (boardOf s) line bare)) where
+        pub book-done : (sort : Sort) {r : ℕ} {later : List ℕ} → Renewed sort t marks (books sort) r later
+            → (later ≡ broughtUp s books line new sort) × (r ≡ found (broughtUp s books line new sort))
+        book-done sort left =
+            let is = ap (λ (row : List ℕ). reworked sort (boardOf t) row (books sort)) marked ∙ brought sort in
+            (left .book ∙ is, left .count ∙ ap found is)
+
+        pub all-done : {n m : ℕ} {book pins : List ℕ} → Renewed Lines t marks (books Lines) n book → Renewed Pins t marks (books Pins) m pins
+            → Reworked s line new books (n + m) t (both book pins)
+        all-done {n} {m} {book} {pins} lines rest =
+            let (book-is, found-lines) = book-done Lines lines in
+            let (pins-are, found-pins) = book-done Pins rest in
+            record { image = put; books-are = each; count = cc (found-lines, found-pins) }
+          where
+            each : (sort : Sort) → both book pins sort ≡ broughtUp s books line new sort
+            each Lines = book-done Lines lines .0
+            each Pins = book-done Pins rest .0

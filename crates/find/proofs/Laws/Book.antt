@@ -4,6 +4,7 @@ use mathlib.Core.Logic.{⊎-elim}
 use mathlib.Core.List.{List, [], _∷_, _++_}
 use mathlib.Core.Bool.{true, false, not, _||_}
 use Prim.Native.Nat.{ℕ, _+_, _*_, _/_, _%_, _≤_, _<_}
+use native.Mathlib.Nat.{le-trans, le-of-eq}
 use native.Mathlib.Numerals.{add-one}
 use native.Mathlib.Omega.{arith}
 use lib.Dec.{eqb}
@@ -16,13 +17,13 @@ use Rattle.board.specs.Gate.{site}
 use Rattle.board.specs.Book.{entriesALine, faultAt, found}
 use Rattle.board.specs.declared.Sort.{Sort}
 use Rattle.board.specs.declared.Sort.the-variants.{Lines, Pins}
-use Rattle.board.proofs.Lists.{way, build-same}
+use Rattle.board.proofs.Lists.{way, build-length, build-same}
 use Rattle.image.specs.Image.{lineCount, boardOf}
 use Rattle.image.specs.Refusals.{Accepted}
 use Rattle.image.specs.Inner.{OnBoard}
 use Rattle.image.proofs.Laws.Fine.{lines-few}
 use Rattle.image.proofs.Laws.Records.{bit-below}
-use Rattle.find.specs.Inner.{reworkedEntry, reworked}
+use Rattle.find.specs.Inner.{reworkedEntry, reworked, Renewed}
 use Rattle.find.specs.Book.{bookOf}
 
 found-end : (es : List ℕ) (e : ℕ) → found (es ++ (e ∷ [])) ≡ found es + bit (not (eqb e noneMark))
@@ -70,7 +71,12 @@ all-reworked sort s book ok long every marked =
     let inside = on-lines sort s (entriesALine sort * lineCount s) k refl l .inside in
     rw (marked (site (faultAt sort k)) (omega (arith, inside, lines-few s ok)))))
 
--- no more entries are counted than there are
-pub found-few : (book : List ℕ) → found book ≤ length book
+-- no more entries are counted than there are, in a renewal either
+found-few : (book : List ℕ) → found book ≤ length book
 found-few [] = omega arith
 found-few (e ∷ es) = omega (arith, found-few es, bit-below (not (eqb e noneMark)))
+
+pub renewed-few : (sort : Sort) {s marks old after : List ℕ} {r : ℕ} → Renewed sort s marks old r after → r ≤ length old
+renewed-few sort {s} {marks} {old} left =
+    let few = found-few (reworked sort (boardOf s) marks old) in
+    rw (left .count) (le-trans few (le-of-eq (build-length (λ k done. reworkedEntry sort (boardOf s) marks old k) (length old))))

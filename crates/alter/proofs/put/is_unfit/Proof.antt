@@ -9,7 +9,7 @@ unfolding unfit
 returns c =
     let placed = c .before .before .before in
     let start = placed .before .before .before in
-    rw (c .would-be-bad .ensures, c .before .byte2 .ensures .0, c .before .before .byte .ensures .0, placed .record-place .ensures, start .pre .1)
+    rw (c .would-be-bad .ensures, c .before .byte2 .ensures .0, c .before .before .byte .ensures .0, placed .record-place .ensures .0, start .pre .1)
 
 pub is-unfit-spec : {M : Type 1} → statement M
 is-unfit-spec =

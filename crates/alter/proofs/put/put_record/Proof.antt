@@ -9,7 +9,7 @@ returns c =
     let copied = c .before .before in
     let placed = copied .before .before in
     let start = placed .before .before .before .before in
-    pasted (start .args .img .now) (start .args .line) (start .args .new .now) _ _ (placed .record-place .ensures) (start .pre .1) (start .pre .2) (copied .copy .ensures .1)
+    pasted (start .args .img .now) (start .args .line) (start .args .new .now) _ _ (placed .record-place .ensures .0) (start .pre .1) (start .pre .2) (copied .copy .ensures .1)
 
 pub put-record-spec : {M : Type 1} → statement M
 put-record-spec =

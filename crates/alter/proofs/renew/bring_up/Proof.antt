@@ -14,18 +14,18 @@ few : (c : tie.Start) → c .args .counts .lines ≤ mostLines
 few c = rw (c .pre .known .lines-are) (lines-few (c .args .img .now) (c .pre .known .ok))
 
 array-borrow-prefix-marks : tie.Need-array-borrow-prefix-marks
-array-borrow-prefix-marks c = omega (arith, c .before .unmarked .ensures .0, few (c .before .before .before .before .before))
+array-borrow-prefix-marks c = omega (arith, c .before .unmarked .ensures .0, few (c .before .before .before .before .before .before))
 
 slice-aggregate-rework : tie.Need-slice-aggregate-rework
 slice-aggregate-rework c =
     let blank = c .before .before .unmarked in
-    let start = c .before .before .before .before .before .before in
+    let start = c .before .before .before .before .before .before .before in
     sym (front (blank .result) (start .args .counts .lines) (blank .ensures .0) (few start))
 
 rework-requires : tie.Need-rework-requires
 rework-requires c κs =
-    let blank = c .before .before .before .unmarked in
-    let start = c .before .before .before .before .before .before .before in
+    let blank = c .before .before .before .before .unmarked in
+    let start = c .before .before .before .before .before .before .before .before .before in
     let lines = start .args .counts .lines in
     (start .pre, front (blank .result) lines (blank .ensures .0) (few start) ∙ start .pre .known .lines-are, front-unmarked lines (blank .result) (blank .ensures .1))
 
@@ -33,4 +33,4 @@ pub bring-up-spec : {M : Type 1} → statement M
 bring-up-spec =
     tie.close
     (tie.spec (λ c κs. search needs) array-borrow-prefix-marks slice-aggregate-rework rework-requires (λ c. search needs) (λ c. search needs)
-    (λ c. search needs))
+    (λ c. search needs) (λ c. search needs))
