@@ -8,11 +8,14 @@ use lib.ListN.{length, getD}
 use Rattle.board.specs.Lists.{_among_, ones}
 use Rattle.board.specs.Board.{Board, inputs}
 use Rattle.board.specs.Row.{value}
-use Rattle.board.specs.Gate.{good, _at_, site, faulty}
+use Rattle.board.specs.Gate.{good, site, faulty}
 use Rattle.board.specs.Reach.{touched}
 use Rattle.board.specs.Test.{shows, Smallest, find}
-use Rattle.board.specs.Book.{lineFault, entry, answerIn}
+use Rattle.board.specs.Book.{entriesALine, faultAt, entry, answerIn}
 use Rattle.board.specs.declared.Fault.{Fault}
+use Rattle.board.specs.declared.Fault.the-variants.{Line, Pin}
+use Rattle.board.specs.declared.Sort.{Sort}
+use Rattle.board.specs.declared.Sort.the-variants.{Lines, Pins}
 use Rattle.board.specs.declared.Condition.{Condition}
 use Rattle.board.specs.declared.Condition.the-variants.{Having}
 use Rattle.image.specs.Image.{lineCount, recordAt, boardOf}
@@ -27,7 +30,7 @@ use Rattle.five.specs.Five.{fivePromise}
 use Rattle.find.specs.Find.{findPromise}
 use Rattle.find.specs.Book.{bookPromise}
 use Rattle.alter.specs.Patch.{patched}
-use Rattle.alter.specs.Alter.{alterPromise}
+use Rattle.alter.specs.Alter.{Books, alterPromise}
 
 -- the calls, each with what it promises for what it is given; Show has no refusal, and its own promise
 pub data Call : Promise → Type 0 where
@@ -37,8 +40,8 @@ pub data Call : Promise → Type 0 where
   Refresh : (img : List ℕ) (pattern line : ℕ) (row : List ℕ) → Call (refreshPromise img pattern line row)
   Five : (img : List ℕ) (named values : ℕ) (fault : Fault) (row : List ℕ) → Call (fivePromise img named values fault row)
   Find : (img : List ℕ) (fault : Fault) → Call (findPromise img fault)
-  Book : (img entries : List ℕ) → Call (bookPromise img entries)
-  Alter : (img book : List ℕ) (line : ℕ) (new : List ℕ) → Call (alterPromise img book line new)
+  Book : (sort : Sort) (img entries : List ℕ) → Call (bookPromise sort img entries)
+  Alter : (img : List ℕ) (books : Books) (line : ℕ) (new : List ℕ) → Call (alterPromise img books line new)
 
 -- demand 1, of a call that promised p, said this and left this of what was lent: it is turned away by the numbers of the first refusal that
 -- applies, which do not begin with 0, and then what was lent is unchanged; 0 is said first where none applies
@@ -55,10 +58,22 @@ DifferSomewhere b φ x = (o : ℕ) × (o among (b .outs)) × (value (good x) b o
 abbrev pub SmallestTest : List ℕ → Fault → Option ℕ → Type 0
 SmallestTest s φ o = Smallest (shows (boardOf s) (Having φ)) (2 ^ inputs (boardOf s)) o
 
--- the whole book of an image's board: two numbers a line, each standing for that answer
-pub record WholeBook (s book : List ℕ) : Type 0 where
-  pub long : length book ≡ 2 * lineCount s
-  pub entries : (line stuck : ℕ) → line < lineCount s → stuck < 2 → SmallestTest s (line at stuck) (answerIn (getD book (2 * line + stuck) 0))
+-- the book of a sort has an entry for the fault: for a line at 0 and at 1, or for each of four pins of a line
+abbrev pub Has : Sort → List ℕ → Fault → Type 0
+Has Lines s (Line line stuck) = (line < lineCount s) × (stuck < 2)
+Has Pins s (Pin line pin stuck) = (line < lineCount s) × (pin < 4) × (stuck < 2)
+Has Lines s (Pin line pin stuck) = ⊥
+Has Pins s (Line line stuck) = ⊥
+
+-- which entry it is
+abbrev pub entryOf : Fault → ℕ
+entryOf (Line line stuck) = 2 * line + stuck
+entryOf (Pin line pin stuck) = 8 * line + 2 * pin + stuck
+
+-- the whole book of an image's board: so many numbers a line, each standing for that answer
+pub record WholeBook (sort : Sort) (s book : List ℕ) : Type 0 where
+  pub long : length book ≡ entriesALine sort * lineCount s
+  pub entries : (φ : Fault) → Has sort s φ → SmallestTest s φ (answerIn (getD book (entryOf φ) 0))
 
 -- 1 for a pattern, 0 for none
 abbrev pub one : Option ℕ → ℕ
@@ -69,12 +84,14 @@ one (some p) = 1
 abbrev pub shownIn : List ℕ → ℕ
 shownIn book = ones (map (λ (e : ℕ). one (answerIn e)) book)
 
--- demand 3, of a line's new record, which turned the image s into t and its book into `later`: the image differs in that one
+-- demand 3, of a line's new record, which turned the image s into t and its books into `later`: the image differs in that one
 -- record, the touched entries are worked out afresh on the new board, and every other one is kept
-pub record BroughtUp (s t : List ℕ) (line : ℕ) (new book later : List ℕ) : Type 0 where
+pub record BroughtUp (s t : List ℕ) (line : ℕ) (new : List ℕ) (books later : Books) : Type 0 where
   pub image : t ≡ patched s line new
-  pub long : length later ≡ length book
+  pub long : (sort : Sort) → length (later sort) ≡ length (books sort)
   pub fresh :
-      (k : ℕ) → k < length book → touched (boardOf s) line (recordAt new 0) (site (lineFault k)) ≡ true
-      → getD later k 0 ≡ entry (find (boardOf t) (lineFault k))
-  pub kept : (k : ℕ) → k < length book → touched (boardOf s) line (recordAt new 0) (site (lineFault k)) ≡ false → getD later k 0 ≡ getD book k 0
+      (sort : Sort) (k : ℕ) → k < length (books sort) → touched (boardOf s) line (recordAt new 0) (site (faultAt sort k)) ≡ true
+      → getD (later sort) k 0 ≡ entry (find (boardOf t) (faultAt sort k))
+  pub kept :
+      (sort : Sort) (k : ℕ) → k < length (books sort) → touched (boardOf s) line (recordAt new 0) (site (faultAt sort k)) ≡ false
+      → getD (later sort) k 0 ≡ getD (books sort) k 0

@@ -15,7 +15,7 @@ use Rattle.board.specs.Test.{differs, shows, first, find}
 use Rattle.board.specs.Book.{renewed}
 use Rattle.board.proofs.Lists.{same-is}
 use Rattle.image.specs.Refusals.{badField, firstBad, firstBadOutput, imageRefusals, firstRefusal}
-use Rattle.image.specs.Promise.{answer, unlessRefused}
+use Rattle.image.specs.Promise.{Promise, answer, unlessRefused}
 use Rattle.image.specs.Calls.{lineRefusals, faultRefusals}
 use Rattle.rows.specs.Rows.{rowsRefusals}
 use Rattle.rows.specs.Judge.{judgeRefusals}
@@ -23,17 +23,23 @@ use Rattle.five.specs.Five.{fiveRefusals, fiveRow}
 use Rattle.find.specs.Book.{bookRefusals, bookOf}
 use Rattle.alter.specs.Patch.{unfit}
 use Rattle.alter.specs.Alter.{broughtUp, alterRefusals}
-use Rattle.sheet.specs.Sheet.{Question, says, leaves, Answers, Starred, sheet, Holds}
+use Rattle.sheet.specs.Sheet.{Question, says, leaves, writes, Answers, Starred, sheet, Holds}
+
+-- what a call leaves in what was lent
+abbrev pub left-by : Promise → List (List ℕ)
+left-by p = unlessRefused (firstRefusal (p .refusals)) (p .lent) (p .filled)
 
 -- the numbers that a call owes
 abbrev pub owed : Question → List ℕ
 owed (says p) = answer (firstRefusal (p .refusals)) (p .done)
-owed (leaves k p) = getD (unlessRefused (firstRefusal (p .refusals)) (p .lent) (p .filled)) k []
+owed (leaves k p) = getD (left-by p) k []
+owed (writes k p) = getD (getD (left-by p) 0 []) k 0 ∷ []
 
 -- and whatever its promise allows has them
 owed-answers : (q : Question) (vs : List ℕ) → owed q ≡ vs → Answers q vs
 owed-answers (says p) vs e = λ left said owes. owes .answers ∙ e
 owed-answers (leaves k p) vs e = λ left said owes. ap (λ (l : List (List ℕ)). getD l k []) (owes .leaves) ∙ e
+owed-answers (writes k p) vs e = λ left said owes. ap (λ (l : List (List ℕ)). getD (getD l 0 []) k 0 ∷ []) (owes .leaves) ∙ e
 
 -- the test: every line of the sheet has the numbers that its call owes
 agrees : List Starred → Bool
