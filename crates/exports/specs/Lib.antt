@@ -1,2 +1,3 @@
+pub mod Fault
 pub mod Exported
 pub mod Show
