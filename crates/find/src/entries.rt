@@ -58,26 +58,16 @@ fn entry_of(a: Answer) -> Entry
     }
 }
 
-// The answer for a fault; that of an absent pin is nothing, without a search.
-fn answer_of(img: &[u8], counts: Counts, condition: Condition) -> Answer
-    requires { ⌜ Known (now img) counts × OnBoard (now img) condition ⌝ }
-    ensures { λ r. ⌜ answered r ≡ smallestOf (boardOf (now (img .entry))) condition ⌝ }
-{
-    if is_absent(img, condition) {
-        return Answer::Nothing;
-    }
-    smallest(img, counts, condition)
-}
-
-// A fault's entry: worked out where its line is marked, and its old number where it is not.
+// A fault's entry: where its line is marked it is worked out, none without a search for an absent pin; its old number where it is not.
 fn renew_entry(img: &[u8], counts: Counts, condition: Condition, marked: bool, old: Entry) -> Entry
     requires { ⌜ Known (now img) counts × OnBoard (now img) condition ⌝ }
     ensures { λ r. ⌜ r ≡ cond marked (entry (smallestOf (boardOf (now (img .entry))) condition)) old ⌝ }
 {
-    if marked {
-        return entry_of(answer_of(img, counts, condition));
+    let absent = is_absent(img, condition);
+    if marked & !absent {
+        return entry_of(smallest(img, counts, condition));
     }
-    old
+    if marked { NONE } else { old }
 }
 
 // Works out the entries of the lines that are marked in a row, keeps the others, and gives how many are then not none.
