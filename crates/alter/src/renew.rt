@@ -29,8 +29,9 @@ fn rework(
     mark_met(img, counts, line, marks); // the board before
     put_record(img, line, new);
     mark_met(img, counts, line, marks); // the board after
-    let lines = renew(img, counts, Sort::Lines, marks, book);
-    lines + renew(img, counts, Sort::Pins, marks, pins)
+    let on_lines = renew(img, counts, Sort::Lines, marks, book);
+    let on_pins = renew(img, counts, Sort::Pins, marks, pins);
+    on_lines + on_pins
 }
 
 // Puts the record in and brings both books up to date; gives how many entries are then not none.
