@@ -1,5 +1,5 @@
 #!/usr/bin/env python3
-"""The exported calls from C and Rust: the archive is proved and written, linked, and held to document 01's numbers.
+"""The exported calls from C and Rust: the archive is proved and written, linked, and held to the papers' numbers.
 
 The archive is for x86-64. Elsewhere a cross compiler and an emulator are used where they are installed, and what is skipped is said.
 Its last line is 'N passed, M failed'.
@@ -18,9 +18,9 @@ from programs import ROOT
 ARCHIVE = ROOT / "target/staticlib/libexports.a"
 ROOM = ROOT / "target/bindings"
 TARGET = "x86_64-unknown-linux-gnu"
-CALLS = ("alter", "book", "check", "find", "five", "judge", "refresh", "rows", "show")
+CALLS = ("alter", "book", "check", "find", "five", "judge", "pin_book", "refresh", "rows", "show")
 
-# the sheet of document 01, and rows worked out by hand
+# the sheet of document 01, and rows and pin books worked out by hand
 C_EXAMPLE = """\
 check S: 0 12 4 1
 find S 4/0: 0 0
@@ -33,20 +33,46 @@ rows S 6 4/1: 0
 show the faulty row from 4: 0 4 8
   part 1 0 0 0 0 0 0 1
 show the good row from 99: 0 12 0
+find S 4.0/1: 0 0
+find S 4.0/0: 0
+find S 4.2/1: 12
+judge S 0 4.0/1: 0 1
+judge S 6 4.0/1: 0 0
+rows S 0 4.0/1: 0
+  good 0 0 0 0 1 0 0 1 0 1 0 1
+  faulty 0 0 0 0 0 1 1 1 0 1 0 0
 find T 0/0: 0
 refresh T 1 from 1: 0
   row 1 0 1
 five T 1/1 2/0: 0 1
   row 1 0 3
+five T 1/0 1.0/1: 0 1
+  row 0 3 3
 book T: 0 2
   book none none 0 none 0 none
-alter T 2: 0 2
+pin book T: 0 3
+  pins of 0: none none none none none none none none
+  pins of 1: none 0 none none none none none none
+  pins of 2: 1 none 0 none none none none none
+alter T 2: 0 5
   book none none none 1 none 0
+  pins of 0: none none none none none none none none
+  pins of 1: 1 none none none none none none none
+  pins of 2: none 0 none 1 none none none none
 find T 2/1: 0 0
 book H: 0 8
   book 1 0 2 0 0 1 2 0
-alter H 3: 0 8
+pin book H: 0 4
+  pins of 0: none none none none none none none none
+  pins of 1: none none none none none none none none
+  pins of 2: 1 0 none none none none none none
+  pins of 3: 2 0 none none none none none none
+alter H 3: 0 13
   book 99 0 2 0 0 1 0 2
+  pins of 0: none none none none none none none 99
+  pins of 1: none none none none none none none none
+  pins of 2: 1 0 none none none none none none
+  pins of 3: 2 0 none none none none none none
 alter H 0: 10
 """
 RUST_EXAMPLE = """\
@@ -93,7 +119,7 @@ def tools():
 
 
 def symbols():
-    """The archive defines the nine calls and needs nothing but memcpy and memset."""
+    """The archive defines the ten calls and needs nothing but memcpy and memset."""
     listed = [line.split() for line in run("nm", ["nm", "-g", ARCHIVE]).splitlines() if re.search(r" [TU] ", line)]
     count("defined", {f"fortizembo_{c}" for c in CALLS} == {s[-1] for s in listed if s[-2] == "T"}, listed)
     count("needed", {s[-1] for s in listed if s[-2] == "U"} <= {"memcpy", "memset"}, listed)
