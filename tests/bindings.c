@@ -1,63 +1,99 @@
-/* Every refusal of every exported call, from C, on board T: its number and values, and that nothing lent is changed. bindings T.img
+/* The exported calls from C: every refusal on board T, with its number and values and nothing lent changed; the fault's numbers as each call
+   that takes them hears them; both books. bindings boards
    Its last line is 'N passed, M failed'. */
 #include "../bindings/c/fortizembo.h"
 #include <inttypes.h>
 #include <stdio.h>
 #include <string.h>
 
-enum { CHECK = 1, ROWS = 2, JUDGE = 4, REFRESH = 8, FIVE = 16, FIND = 32, BOOK = 64, ALTER = 128, ALL = 255 };
-static const char *const names[8] = {"check", "rows", "judge", "refresh", "five", "find", "book", "alter"};
+#define NONE FORTIZEMBO_NONE
+
+_Static_assert(sizeof(fortizembo_fault) == 24 && offsetof(fortizembo_fault, pin) == 8, "two numbers of eight bytes come first");
+_Static_assert(offsetof(fortizembo_fault, sort) == 16 && offsetof(fortizembo_fault, stuck) == 17, "then two bytes");
+
+enum { CHECK = 1, ROWS = 2, JUDGE = 4, REFRESH = 8, FIVE = 16, FIND = 32, BOOK = 64, PIN_BOOK = 128, ALTER = 256, ALL = 511 };
+enum { FAULT = ROWS | JUDGE | FIVE | FIND, PATTERN = ROWS | JUDGE | REFRESH, LENT = ROWS | REFRESH | FIVE | BOOK | PIN_BOOK | ALTER };
+static const char *const names[9] = {"check", "rows", "judge", "refresh", "five", "find", "book", "pin_book", "alter"};
 
 /* What a call is asked. */
 typedef struct {
     size_t length; /* of the image, counted back from its end */
     uint64_t pattern, named, values;
-    size_t line;
-    uint8_t stuck;
-    size_t good_length, faulty_length, row_length, entries;
+    size_t line, pin;
+    uint8_t sort, stuck;
+    size_t good_length, faulty_length, row_length, entries, pin_entries;
     uint8_t record[10];
 } question;
 
-/* All that is lent. */
+/* All that is lent beside a record. */
 typedef struct {
     uint8_t image[512], good[4], faulty[4], row[4];
-    uint32_t book[8];
+    uint32_t book[32], pins[32];
 } room;
 
-static const question fine = {44, 1, 1, 1, 2, 0, 3, 3, 3, 6, {5, 2, 0, 0, 1, 0, 0, 0, 0, 0}};
+typedef struct {
+    uint8_t bytes[256];
+    size_t length;
+} board;
+
+static const question fine = {44, 1, 1, 1, 2, 0, 0, 0, 3, 3, 3, 6, 24, {5, 2, 0, 0, 1, 0, 0, 0, 0, 0}};
+static const uint8_t sorts[3] = {0, 1, 255};
 static room blank;
 static int passed, failed;
 
+/* One check. */
+static void check(int right, const char *name, const char *why)
+{
+    passed += right;
+    failed += !right;
+    if (!right)
+        printf("%s, %s\n", name, why);
+}
+
 static fortizembo_answer call(unsigned which, const question *q, room *r)
 {
+    const fortizembo_fault fault = {q->line, q->pin, q->sort, q->stuck};
     uint8_t *image = r->image + sizeof r->image - q->length;
     switch (which) {
     case CHECK: return fortizembo_check(image, q->length);
-    case ROWS: return fortizembo_rows(image, q->length, q->pattern, q->line, q->stuck, r->good, q->good_length, r->faulty, q->faulty_length);
-    case JUDGE: return fortizembo_judge(image, q->length, q->pattern, q->line, q->stuck);
+    case ROWS: return fortizembo_rows(image, q->length, q->pattern, fault, r->good, q->good_length, r->faulty, q->faulty_length);
+    case JUDGE: return fortizembo_judge(image, q->length, q->pattern, fault);
     case REFRESH: return fortizembo_refresh(image, q->length, q->pattern, q->line, r->row, q->row_length);
-    case FIVE: return fortizembo_five(image, q->length, q->named, q->values, q->line, q->stuck, r->row, q->row_length);
-    case FIND: return fortizembo_find(image, q->length, q->line, q->stuck);
+    case FIVE: return fortizembo_five(image, q->length, q->named, q->values, fault, r->row, q->row_length);
+    case FIND: return fortizembo_find(image, q->length, fault);
     case BOOK: return fortizembo_book(image, q->length, r->book, q->entries);
-    default: return fortizembo_alter(image, q->length, r->book, q->entries, q->line, q->record);
+    case PIN_BOOK: return fortizembo_pin_book(image, q->length, r->pins, q->pin_entries);
+    default: return fortizembo_alter(image, q->length, r->book, q->entries, r->pins, q->pin_entries, q->line, q->record);
     }
 }
 
 /* Asks some calls: each says that number, with those values, and where it refuses all that was lent is as before. */
 static void says(unsigned calls, const room *lent, question q, const char *why, uint64_t number, uint64_t values, uint64_t first, uint64_t second)
 {
-    for (unsigned i = 0; i < 8; i++) {
+    for (unsigned i = 0; i < 9; i++) {
         if ((calls >> i & 1) == 0)
             continue;
         room r = *lent;
-        fortizembo_answer a = call(1u << i, &q, &r);
+        question asked = q;
+        fortizembo_answer a = call(1u << i, &asked, &r);
         int right = a.number == number && (number == 0 || (a.values == values && a.first == first && a.second == second && a.third == 0));
-        if (number != 0 && memcmp(&r, lent, sizeof r) != 0)
+        if (memcmp(asked.record, q.record, sizeof q.record) != 0 || (number != 0 && memcmp(&r, lent, sizeof r) != 0))
             right = 0;
-        passed += right;
-        failed += !right;
+        check(right, names[i], why);
         if (!right)
-            printf("%s, %s: %" PRIu64 " %" PRIu64 " %" PRIu64 " %" PRIu64 " %" PRIu64 "\n", names[i], why, a.number, a.values, a.first, a.second, a.third);
+            printf("  of sort %u: %" PRIu64 " %" PRIu64 " %" PRIu64 " %" PRIu64 " %" PRIu64 "\n", q.sort, a.number, a.values, a.first, a.second,
+                   a.third);
+    }
+}
+
+/* The same, and again of a pin's fault for the calls that take one: its sort is any number but 0. */
+static void says_of_both(unsigned calls, const room *lent, question q, const char *why, uint64_t number, uint64_t values, uint64_t first,
+                         uint64_t second)
+{
+    says(calls, lent, q, why, number, values, first, second);
+    for (unsigned i = 1; i < 3; i++) {
+        q.sort = sorts[i];
+        says(calls & FAULT, lent, q, why, number, values, first, second);
     }
 }
 
@@ -74,62 +110,118 @@ static void bad_images(void)
 {
     question q = fine;
     room r = with_byte(1, 0x32);
-    says(ALL, &r, q, "another mark", 1, 0, 0, 0);
+    says_of_both(ALL, &r, q, "another mark", 1, 0, 0, 0);
     r = with_byte(12, 0);
-    says(ALL, &r, q, "no line", 2, 0, 0, 0);
+    says_of_both(ALL, &r, q, "no line", 2, 0, 0, 0);
     r = with_byte(6, 1);
-    says(ALL, &r, q, "distance 0x1002C", 3, 0, 0, 0);
+    says_of_both(ALL, &r, q, "distance 0x1002C", 3, 0, 0, 0);
     r = with_byte(20, 2);
-    says(ALL, &r, q, "pin 2 of line 2 names line 2", 4, 2, 2, 3);
+    says_of_both(ALL, &r, q, "pin 2 of line 2 names line 2", 4, 2, 2, 3);
     r = with_byte(14, 3);
-    says(ALL, &r, q, "output line 3 of 3", 5, 1, 0, 0);
+    says_of_both(ALL, &r, q, "output line 3 of 3", 5, 1, 0, 0);
+    q.line = q.pin = SIZE_MAX;
+    says_of_both(ALL, &r, q, "output line 3 of 3, and a line and a pin that are not there", 5, 1, 0, 0);
+    q = fine;
     q.length = 0;
-    says(ALL, &blank, q, "the empty image", 1, 0, 0, 0);
+    says_of_both(ALL, &blank, q, "the empty image", 1, 0, 0, 0);
     q.length = 11;
-    says(ALL, &blank, q, "eleven bytes", 1, 0, 0, 0);
+    says_of_both(ALL, &blank, q, "eleven bytes", 1, 0, 0, 0);
     q.length = 12;
-    says(ALL, &blank, q, "a trailer alone", 3, 0, 0, 0);
+    says_of_both(ALL, &blank, q, "a trailer alone", 3, 0, 0, 0);
     q.length = 44 + 256;
-    says(ALL, &blank, q, "a note of 256", 0, 0, 0, 0);
+    says_of_both(ALL, &blank, q, "a note of 256", 0, 0, 0, 0);
     q.length = 44 + 257;
-    says(ALL, &blank, q, "a note of 257", 3, 0, 0, 0);
+    says_of_both(ALL, &blank, q, "a note of 257", 3, 0, 0, 0);
 }
 
-/* 6, 7 and 8: a fault or a pattern that the board has not. */
-static void bad_questions(void)
+/* 6 and 7: a line or a stuck value that is not there, before a pin that is not there. */
+static void bad_faults(void)
 {
     question q = fine;
-    q.line = 3;
-    q.stuck = 2;
-    says(ROWS | JUDGE | REFRESH | FIVE | FIND | ALTER, &blank, q, "line 3 of 3", 6, 0, 0, 0);
+    q.line = 3, q.pin = SIZE_MAX, q.stuck = 2;
+    says_of_both(FAULT | REFRESH | ALTER, &blank, q, "line 3 of 3", 6, 0, 0, 0);
     q.line = SIZE_MAX;
-    says(ROWS | JUDGE | REFRESH | FIVE | FIND | ALTER, &blank, q, "the largest line", 6, 0, 0, 0);
+    says_of_both(FAULT | REFRESH | ALTER, &blank, q, "the largest line", 6, 0, 0, 0);
     q.line = 2;
-    says(ROWS | JUDGE | FIVE | FIND, &blank, q, "stuck value 2", 7, 0, 0, 0);
+    says_of_both(FAULT, &blank, q, "stuck value 2, and no such pin", 7, 0, 0, 0);
     q.stuck = 255;
-    says(ROWS | JUDGE | FIVE | FIND, &blank, q, "stuck value 255", 7, 0, 0, 0);
-    q = fine;
-    q.pattern = 2;
-    says(ROWS | JUDGE | REFRESH, &blank, q, "pattern 2", 8, 0, 0, 0);
-    q.pattern = UINT64_MAX;
-    says(ROWS | JUDGE | REFRESH, &blank, q, "the largest pattern", 8, 0, 0, 0);
-    q.named = 3;
-    says(FIVE, &blank, q, "a named bit too high", 8, 0, 0, 0);
-    q.named = 1, q.values = 2;
-    says(FIVE, &blank, q, "a value bit too high", 8, 0, 0, 0);
-    q.named = 0, q.values = 1;
-    says(FIVE, &blank, q, "a value bit where no input is named", 8, 0, 0, 0);
+    says_of_both(FAULT, &blank, q, "stuck value 255, and no such pin", 7, 0, 0, 0);
+    q.pin = 1;
+    says_of_both(FAULT, &blank, q, "stuck value 255", 7, 0, 0, 0);
+    q.line = 0, q.pin = 0;
+    says_of_both(FAULT, &blank, q, "stuck value 255 of an input", 7, 0, 0, 0);
 }
 
-/* 9, 10 and 11: a buffer of another length, an alteration that may not stand, a row that is none. */
-static void bad_buffers(void)
+/* 12: a pin that the line's gate does not have, before a bad pattern and a bad row; a line's fault has no use for its pin. */
+static void bad_pins(void)
+{
+    static const size_t pins[] = {2, 3, 4, 8, 256, 65536, (size_t)1 << 32, SIZE_MAX / 8 + 1, SIZE_MAX / 2 + 1, SIZE_MAX - 1, SIZE_MAX};
+    question q = fine;
+    for (unsigned i = 0; i < 3 * sizeof pins / sizeof *pins; i++) {
+        q.sort = sorts[i % 3], q.pin = pins[i / 3];
+        says(FAULT, &blank, q, "no such pin of line 2", q.sort == 0 ? 0 : 12, 0, 0, 0);
+    }
+    for (unsigned i = 1; i < 3; i++) {
+        q = fine;
+        q.sort = sorts[i], q.line = 1, q.pin = 1;
+        says(FAULT, &blank, q, "pin 1 of a not", 12, 0, 0, 0);
+        q.line = 0, q.pin = 0, q.stuck = 1;
+        says(FAULT, &blank, q, "pin 0 of an input", 12, 0, 0, 0);
+        q.pin = SIZE_MAX, q.pattern = q.named = UINT64_MAX;
+        says(FAULT, &blank, q, "the largest pin of an input, and a bad pattern", 12, 0, 0, 0);
+        q.line = 2, q.pin = 2, q.good_length = q.row_length = 0;
+        says(FAULT, &blank, q, "pin 2 of line 2, a bad pattern and a bad row", 12, 0, 0, 0);
+    }
+}
+
+/* 8: a pattern that the board has not, before a bad row. */
+static void bad_patterns(void)
 {
     question q = fine;
-    q.good_length = 2, q.row_length = 4, q.entries = 5;
-    says(ROWS | REFRESH | FIVE | BOOK | ALTER, &blank, q, "a short row, a long row, a short book", 9, 0, 0, 0);
-    q.good_length = 3, q.faulty_length = 4, q.row_length = 0, q.entries = 7;
-    says(ROWS | REFRESH | FIVE | BOOK | ALTER, &blank, q, "a long row, an empty row, a long book", 9, 0, 0, 0);
+    q.pattern = 2;
+    says_of_both(PATTERN, &blank, q, "pattern 2", 8, 0, 0, 0);
+    q.pattern = UINT64_MAX, q.good_length = q.row_length = 0;
+    says_of_both(PATTERN, &blank, q, "the largest pattern, and a bad row", 8, 0, 0, 0);
+    q.named = 3;
+    says_of_both(FIVE, &blank, q, "a named bit too high, and a bad row", 8, 0, 0, 0);
+    q.named = 1, q.values = 2, q.row_length = 3;
+    says_of_both(FIVE, &blank, q, "a value bit too high", 8, 0, 0, 0);
+    q.named = 0, q.values = 1;
+    says_of_both(FIVE, &blank, q, "a value bit where no input is named", 8, 0, 0, 0);
+}
+
+/* 9: a row or a book of another length. */
+static void bad_lengths(void)
+{
+    static const size_t books[] = {0, 5, 7, 8, 12, 24}, pin_books[] = {0, 6, 7, 8, 23, 25};
+    question q = fine;
+    q.good_length = 2, q.row_length = 4, q.entries = 5, q.pin_entries = 23;
+    says_of_both(LENT, &blank, q, "a short row, a long row, short books", 9, 0, 0, 0);
+    q.good_length = 3, q.faulty_length = 4, q.row_length = 0, q.entries = 7, q.pin_entries = 25;
+    says_of_both(LENT, &blank, q, "a long row, an empty row, long books", 9, 0, 0, 0);
+    for (unsigned i = 0; i < 6; i++) {
+        q = fine;
+        q.entries = books[i];
+        says(BOOK | ALTER, &blank, q, "a book of another length", 9, 0, 0, 0);
+        q = fine;
+        q.pin_entries = pin_books[i];
+        says(PIN_BOOK | ALTER, &blank, q, "a pin book of another length", 9, 0, 0, 0);
+        q.line = 0;
+        says(ALTER, &blank, q, "a pin book of another length, and an input altered", 9, 0, 0, 0);
+        q.line = 3;
+        says(ALTER, &blank, q, "a pin book of another length, and no such line", 6, 0, 0, 0);
+    }
     q = fine;
+    q.entries = 24, q.pin_entries = 6;
+    says(BOOK | PIN_BOOK | ALTER, &blank, q, "the books' lengths swapped", 9, 0, 0, 0);
+    q.line = 0, q.entries = 5, q.pin_entries = 24;
+    says(ALTER, &blank, q, "a short book, and an input altered", 9, 0, 0, 0);
+}
+
+/* 10 and 11: an alteration that may not stand, a row that is none. */
+static void bad_records(void)
+{
+    question q = fine;
     q.line = 0;
     says(ALTER, &blank, q, "an input altered", 10, 0, 0, 0);
     q.line = 2;
@@ -145,19 +237,180 @@ static void bad_buffers(void)
     says(REFRESH, &r, fine, "a byte over 1 before the line", 11, 0, 0, 0);
 }
 
+/* A fault of T, and what the calls owe of it for a pattern: worked out by hand. */
+typedef struct {
+    const char *name;
+    fortizembo_fault fault;
+    uint64_t pattern;
+    uint8_t faulty[3], five[3];
+    uint64_t driven;
+    uint32_t found;
+} owed;
+
+static const owed of_t[] = {
+    {"0/0", {0, 9, 0, 0}, 1, {0, 1, 1}, {3, 4, 1}, 0, NONE},     {"0/1", {0, 9, 0, 1}, 0, {1, 0, 1}, {4, 3, 1}, 0, NONE},
+    {"1/0", {1, 9, 0, 0}, 0, {0, 0, 0}, {0, 3, 3}, 1, 0},        {"1/1", {1, 9, 0, 1}, 1, {1, 1, 1}, {1, 4, 1}, 0, NONE},
+    {"2/0", {2, 9, 0, 0}, 1, {1, 0, 0}, {1, 0, 3}, 1, 0},        {"2/1", {2, 9, 0, 1}, 1, {1, 0, 1}, {1, 0, 1}, 0, NONE},
+    {"1.0/0", {1, 0, 1, 0}, 1, {1, 1, 1}, {1, 4, 1}, 0, NONE},   {"1.0/1", {1, 0, 1, 1}, 0, {0, 0, 0}, {0, 3, 3}, 1, 0},
+    {"2.0/0", {2, 0, 1, 0}, 1, {1, 0, 0}, {1, 0, 3}, 1, 1},      {"2.0/1", {2, 0, 1, 1}, 0, {0, 1, 1}, {0, 1, 1}, 0, NONE},
+    {"2.1/0", {2, 1, 255, 0}, 0, {0, 1, 0}, {0, 1, 3}, 1, 0},    {"2.1/1", {2, 1, 255, 1}, 1, {1, 0, 1}, {1, 0, 1}, 0, NONE},
+    {"2.0/0", {2, 0, 255, 0}, 0, {0, 1, 1}, {0, 1, 1}, 0, 1},    {"2.1/0", {2, 1, 2, 0}, 1, {1, 0, 1}, {1, 0, 1}, 0, 0},
+};
+
+/* Whether an answer gives a value, and this one: none for NONE. */
+static int gives(fortizembo_answer a, uint32_t value)
+{
+    return a.number == 0 && (value == NONE ? a.values == 0 : a.values == 1 && a.first == value) && a.second == 0 && a.third == 0;
+}
+
+/* Each call that takes a fault hears its line, pin, sort and stuck value, whatever stands before it. */
+static void heard_by_t(const board *t)
+{
+    static const uint8_t good[2][3] = {{0, 1, 1}, {1, 0, 1}}, unnamed[3] = {2, 2, 2};
+    uint8_t rows[2][3], row[3];
+    for (unsigned i = 0; i < sizeof of_t / sizeof *of_t; i++) {
+        const owed *o = &of_t[i];
+        fortizembo_answer a = fortizembo_rows(t->bytes, t->length, o->pattern, o->fault, rows[0], 3, rows[1], 3);
+        check(a.number == 0 && a.values == 0 && memcmp(rows[0], good[o->pattern], 3) == 0 && memcmp(rows[1], o->faulty, 3) == 0, "rows", o->name);
+        check(gives(fortizembo_judge(t->bytes, t->length, o->pattern, o->fault), o->faulty[2] != rows[0][2]), "judge", o->name);
+        check(gives(fortizembo_find(t->bytes, t->length, o->fault), o->found), "find", o->name);
+        a = fortizembo_five(t->bytes, t->length, 1, o->pattern, o->fault, row, 3);
+        check(gives(a, (uint32_t)o->driven) && memcmp(row, o->five, 3) == 0, "five", o->name);
+        a = fortizembo_five(t->bytes, t->length, 0, 0, o->fault, row, 3);
+        check(gives(a, 0) && memcmp(row, unnamed, 3) == 0, "five, no input named", o->name);
+    }
+}
+
+/* Judge, Rows and Five hear the same of a fault and a pattern of S: its output, line 11, differs in all of them or in none. */
+static int shown(const board *s, uint64_t pattern, fortizembo_fault fault)
+{
+    uint8_t good[12], faulty[12], five[12];
+    fortizembo_answer a = fortizembo_judge(s->bytes, s->length, pattern, fault);
+    const int yes = a.number == 0 && a.first == 1;
+    check(gives(a, (uint32_t)yes), "judge", "a fault of S");
+    a = fortizembo_rows(s->bytes, s->length, pattern, fault, good, 12, faulty, 12);
+    check(a.number == 0 && (good[11] != faulty[11]) == yes, "rows", "a fault of S");
+    a = fortizembo_five(s->bytes, s->length, 15, pattern, fault, five, 12);
+    int right = gives(a, (uint32_t)yes);
+    for (unsigned i = 0; i < 12; i++)
+        right &= five[i] == (good[i] == faulty[i] ? good[i] : good[i] == 1 ? 3 : 4);
+    check(right, "five", "a fault of S");
+    return yes;
+}
+
+/* A fault of S: Find gives the entry of its book, a call that hears no fault, and that pattern is the first that shows it. */
+static void heard_by_s(const board *s, fortizembo_fault fault, uint32_t entry)
+{
+    uint32_t first = NONE;
+    for (uint32_t pattern = 16; pattern-- > 0;)
+        if (shown(s, pattern, fault))
+            first = pattern;
+    check(first == entry, "judge", "the first pattern for a fault of S");
+    check(gives(fortizembo_find(s->bytes, s->length, fault), entry), "find", "a fault of S");
+}
+
+/* Every fault of S, held to both its books. */
+static void faults_of_s(const board *s)
+{
+    uint32_t book[24], pins[96];
+    check(fortizembo_book(s->bytes, s->length, book, 24).number == 0, "book", "S");
+    check(fortizembo_pin_book(s->bytes, s->length, pins, 96).number == 0, "pin_book", "S");
+    check(book[8] == 0 && book[9] == 6 && pins[32] == NONE && pins[33] == 0, "both books", "S, line 4 and its pin 0");
+    for (unsigned i = 0; i < 24; i++)
+        heard_by_s(s, fortizembo_line_fault(i / 2, i % 2), book[i]);
+    for (unsigned i = 0; i < 96; i++) {
+        const fortizembo_fault fault = fortizembo_pin_fault(i / 8, i / 2 % 4, i % 2);
+        if (fault.pin < s->bytes[10 * fault.line + 1])
+            heard_by_s(s, fault, pins[i]);
+        else
+            check(pins[i] == NONE && fortizembo_find(s->bytes, s->length, fault).number == 12, "both", "an absent pin of S");
+    }
+}
+
+/* Alters a board whose books hold 99 everywhere: the books and the count that are owed, and the image with that one record. */
+static void altered(const board *b, size_t lines, size_t line, const uint8_t *record, const uint32_t *book, const uint32_t *pins, const char *why)
+{
+    board now = *b, then = *b;
+    uint32_t entries[2][32];
+    uint64_t owed_count = 0;
+    for (unsigned i = 0; i < 32; i++)
+        entries[0][i] = entries[1][i] = 99;
+    for (size_t i = 0; i < 2 * lines; i++)
+        owed_count += book[i] != NONE;
+    for (size_t i = 0; i < 8 * lines; i++)
+        owed_count += pins[i] != NONE;
+    memcpy(then.bytes + 10 * line, record, 10);
+    fortizembo_answer a = fortizembo_alter(now.bytes, now.length, entries[0], 2 * lines, entries[1], 8 * lines, line, record);
+    check(a.number == 0 && a.values == 1 && a.first == owed_count, "alter, the count", why);
+    check(memcmp(entries[0], book, 8 * lines) == 0, "alter, the book", why);
+    check(memcmp(entries[1], pins, 32 * lines) == 0, "alter, the pin book", why);
+    check(memcmp(&now, &then, sizeof now) == 0, "alter, the image", why);
+}
+
+/* Alterations of T and H by hand. All of T is touched. Of H lines 1 and 3 are, and lines 0 and 2 keep their 99, absent pins included. */
+static void alterations(const board *t, const board *h)
+{
+    static const uint8_t and_0_1[10] = {3, 2, 0, 0, 1}, not_0[10] = {2, 1, 0}, not_1[10] = {2, 1, 1};
+    static const uint32_t and_book[6] = {NONE, NONE, NONE, 1, NONE, 0}, not_book[6] = {1, 0, NONE, NONE, 0, 1};
+    static const uint32_t h_book[8] = {99, 99, 2, 0, 99, 99, 0, 2};
+    uint32_t pins[32];
+    memset(pins, 0xFF, sizeof pins);
+    pins[8] = 1, pins[17] = 0, pins[19] = 1;
+    altered(t, 3, 2, and_0_1, and_book, pins, "T, line 2 to and(0,1)");
+    memset(pins, 0xFF, sizeof pins);
+    pins[16] = 1, pins[17] = 0;
+    altered(t, 3, 2, not_0, not_book, pins, "T, line 2 to not(0), which has no pin 1");
+    for (unsigned i = 0; i < 32; i++)
+        pins[i] = i / 8 % 2 == 0 ? 99 : NONE;
+    pins[24] = 2, pins[25] = 0;
+    altered(h, 4, 3, not_1, h_book, pins, "H, line 3 to not(1)");
+}
+
+/* The pin book of T by hand: 1.0/1 and 2.1/0 are shown by pattern 0, 2.0/0 by pattern 1, nothing else by any. */
+static void pin_book_of_t(const board *t)
+{
+    uint32_t pins[24], entries[24] = {0};
+    memset(pins, 0xFF, sizeof pins);
+    pins[8 * 1 + 2 * 0 + 1] = 0, pins[8 * 2 + 2 * 0 + 0] = 1, pins[8 * 2 + 2 * 1 + 0] = 0;
+    check(gives(fortizembo_pin_book(t->bytes, t->length, entries, 24), 3) && memcmp(entries, pins, sizeof pins) == 0, "pin_book", "T");
+}
+
+/* A sample board, with length 0 where it cannot be read. */
+static board load(const char *folder, const char *name)
+{
+    board read = {{0}, 0};
+    char path[4096];
+    snprintf(path, sizeof path, "%s/%s.img", folder, name);
+    FILE *file = fopen(path, "rb");
+    if (file == NULL)
+        return read;
+    read.length = fread(read.bytes, 1, sizeof read.bytes, file);
+    fclose(file);
+    return read;
+}
+
 int main(int argc, char **argv)
 {
-    FILE *file = argc == 2 ? fopen(argv[1], "rb") : NULL;
-    if (file == NULL || fread(blank.image + sizeof blank.image - 44, 1, 44, file) != 44) {
-        printf("no board T\n");
+    const char *folder = argc == 2 ? argv[1] : "boards";
+    const board s = load(folder, "S"), t = load(folder, "T"), h = load(folder, "H");
+    if (s.length != 134 || t.length != 44 || h.length != 56) {
+        printf("no boards S, T and H\n");
         return 1;
     }
-    fclose(file);
+    memcpy(blank.image + sizeof blank.image - 44, t.bytes, 44);
     memset(blank.book, 0xA5, sizeof blank.book);
-    says(ALL, &blank, fine, "what is fine", 0, 0, 0, 0);
+    memset(blank.pins, 0x5A, sizeof blank.pins);
+    says_of_both(ALL, &blank, fine, "what is fine", 0, 0, 0, 0);
     bad_images();
-    bad_questions();
-    bad_buffers();
+    bad_faults();
+    bad_pins();
+    bad_patterns();
+    bad_lengths();
+    bad_records();
+    heard_by_t(&t);
+    faults_of_s(&s);
+    pin_book_of_t(&t);
+    alterations(&t, &h);
     printf("%d passed, %d failed\n", passed, failed);
     return failed != 0;
 }

@@ -126,12 +126,12 @@ def symbols():
 
 
 def from_c(compiler, words, runner):
-    """The example's numbers, and every refusal."""
+    """The example's numbers, every refusal, and every fault of board S."""
     strict = ["-std=c11", "-O2", "-pedantic", "-Wall", "-Wextra", "-Wconversion", "-Werror", *words]
     for name, source in (("example", "bindings/c/example.c"), ("refusals", "tests/bindings.c")):
         run(source, [compiler, *strict, ROOT / source, ARCHIVE, "-o", ROOM / name])
     compare("C example", run("C example", [*runner, ROOM / "example", ROOT / "boards"]), C_EXAMPLE)
-    written = run("C refusals", [*runner, ROOM / "refusals", ROOT / "boards/T.img"])
+    written = run("C refusals", [*runner, ROOM / "refusals", ROOT / "boards"])
     all_passed = re.search(r"^([0-9]+) passed, 0 failed\n\Z", written, re.MULTILINE)
     count("C refusals", all_passed, written, int(all_passed[1]) if all_passed else 1)
 
