@@ -78,13 +78,19 @@ alter H 0: 10
 RUST_EXAMPLE = """\
 check S: Good(Counts { lines: 12, inputs: 4, outputs: 1 })
 find S 4/1: Pattern(6)
+find S 4.0/1: Pattern(0)
+find S 4.2/1: Refused(Pin)
 judge S 7 4/1: Yes
+judge S 7 4.0/1: No
 rows S 6 4/1: Done [0, 1, 1, 0, 0, 1, 1, 0, 0, 0, 0, 0] [0, 1, 1, 0, 1, 0, 0, 0, 0, 0, 0, 1]
 show the faulty row from 4: [1, 0, 0, 0, 0, 0, 0, 1]
 refresh T 1 from 1: Done [1, 0, 1]
 five T 1/1 2/0: Count(1) [1, 0, 3]
+five T 1/0 1.0/1: Count(1) [0, 3, 3]
 book T: Entries(2) [4294967295, 4294967295, 0, 4294967295, 0, 4294967295]
-alter T 2: Entries(2) [4294967295, 4294967295, 4294967295, 1, 4294967295, 0]
+pin book T: Entries(3) [4294967295, 0] [1, 4294967295, 0, 4294967295]
+alter T 2: Entries(5) [4294967295, 4294967295, 4294967295, 1, 4294967295, 0]
+its used pins: [1, 4294967295] [4294967295, 0, 4294967295, 1]
 """
 
 def run(name, command, **words):

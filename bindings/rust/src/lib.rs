@@ -5,7 +5,7 @@
 
 mod raw;
 
-use raw::Answer;
+use raw::{Answer, FaultNumbers};
 
 /// A number in a book.
 pub type Entry = u32;
@@ -13,14 +13,14 @@ pub type Entry = u32;
 /// The entry for none.
 pub const NONE: Entry = 4_294_967_295;
 
-/// A fault: one line held at 0 or at 1 for everything that reads it.
+/// A fault: one line held at 0 or at 1 for everything that reads it, or one pin of a line's gate, for that gate alone.
 #[derive(Clone, Copy, Debug, PartialEq, Eq)]
-pub struct Fault {
-    pub line: usize,
-    pub stuck: u8,
+pub enum Fault {
+    Line { line: usize, stuck: u8 },
+    Pin { line: usize, pin: usize, stuck: u8 },
 }
 
-/// Why the bench says no, by document 01's table.
+/// Why the bench says no, by document 01's table and document 02's number 12.
 #[derive(Clone, Copy, Debug, PartialEq, Eq)]
 pub enum Refusal {
     Mark,
@@ -34,6 +34,7 @@ pub enum Refusal {
     Lent,
     Alteration,
     Row,
+    Pin,
 }
 
 /// The line, input and output counts of an image.
@@ -81,7 +82,7 @@ pub enum Found {
     Refused(Refusal),
 }
 
-/// How many entries of a book are not none.
+/// How many entries of a book, or of both, are not none.
 #[derive(Clone, Copy, Debug, PartialEq, Eq)]
 pub enum Counted {
     Entries(usize),
@@ -103,8 +104,17 @@ fn heard(a: Answer) -> Result<[u64; 3], Refusal> {
         9 => Refusal::Lent,
         10 => Refusal::Alteration,
         11 => Refusal::Row,
+        12 => Refusal::Pin,
         n => unreachable!("no refusal has number {n}"),
     })
+}
+
+/// The numbers that name a fault.
+fn numbers(fault: Fault) -> FaultNumbers {
+    match fault {
+        Fault::Line { line, stuck } => FaultNumbers { line, pin: 0, sort: 0, stuck },
+        Fault::Pin { line, pin, stuck } => FaultNumbers { line, pin, sort: 1, stuck },
+    }
 }
 
 /// Check an image: its line, input and output counts.
@@ -126,15 +136,13 @@ fn filled(a: Answer) -> Filled {
 
 /// Rows: fills one row with the good values of all lines and one with the faulty values.
 pub fn rows(img: &[u8], pattern: u64, fault: Fault, good: &mut [u8], faulty: &mut [u8]) -> Filled {
-    let (g, f, Fault { line, stuck }) = (good.as_mut_ptr(), faulty.as_mut_ptr(), fault);
-    filled(unsafe {
-        raw::fortizembo_rows(img.as_ptr(), img.len(), pattern, line, stuck, g, good.len(), f, faulty.len())
-    })
+    let (n, g, f) = (numbers(fault), good.as_mut_ptr(), faulty.as_mut_ptr());
+    filled(unsafe { raw::fortizembo_rows(img.as_ptr(), img.len(), pattern, n, g, good.len(), f, faulty.len()) })
 }
 
 /// Judge: whether the pattern shows the fault.
 pub fn judge(img: &[u8], pattern: u64, fault: Fault) -> Judged {
-    match heard(unsafe { raw::fortizembo_judge(img.as_ptr(), img.len(), pattern, fault.line, fault.stuck) }) {
+    match heard(unsafe { raw::fortizembo_judge(img.as_ptr(), img.len(), pattern, numbers(fault)) }) {
         Ok([0, ..]) => Judged::No,
         Ok(_) => Judged::Yes,
         Err(r) => Judged::Refused(r),
@@ -156,8 +164,8 @@ pub fn show<'a>(good: &'a [u8], faulty: &'a [u8], wants_faulty: bool, start: usi
 
 /// Five values: fills the row for a partial pattern.
 pub fn five(img: &[u8], named: u64, values: u64, fault: Fault, row: &mut [u8]) -> Driven {
-    let (lent, Fault { line, stuck }) = ((row.as_mut_ptr(), row.len()), fault);
-    match heard(unsafe { raw::fortizembo_five(img.as_ptr(), img.len(), named, values, line, stuck, lent.0, lent.1) }) {
+    let (n, r) = (numbers(fault), row.as_mut_ptr());
+    match heard(unsafe { raw::fortizembo_five(img.as_ptr(), img.len(), named, values, n, r, row.len()) }) {
         Ok([n, ..]) => Driven::Count(n as usize),
         Err(r) => Driven::Refused(r),
     }
@@ -165,7 +173,7 @@ pub fn five(img: &[u8], named: u64, values: u64, fault: Fault, row: &mut [u8]) -
 
 /// Find: the smallest pattern that shows the fault.
 pub fn find(img: &[u8], fault: Fault) -> Found {
-    let a = unsafe { raw::fortizembo_find(img.as_ptr(), img.len(), fault.line, fault.stuck) };
+    let a = unsafe { raw::fortizembo_find(img.as_ptr(), img.len(), numbers(fault)) };
     match heard(a) {
         Ok(_) if a.values == 0 => Found::Nothing,
         Ok([pattern, ..]) => Found::Pattern(pattern),
@@ -185,8 +193,13 @@ pub fn book(img: &[u8], entries: &mut [Entry]) -> Counted {
     counted(unsafe { raw::fortizembo_book(img.as_ptr(), img.len(), entries.as_mut_ptr(), entries.len()) })
 }
 
-/// Alter: puts a new record in the image and brings the book up to date.
-pub fn alter(img: &mut [u8], book: &mut [Entry], line: usize, record: [u8; 10]) -> Counted {
-    let (i, b) = ((img.as_mut_ptr(), img.len()), (book.as_mut_ptr(), book.len()));
-    counted(unsafe { raw::fortizembo_alter(i.0, i.1, b.0, b.1, line, record.as_ptr()) })
+/// Pin book: fills entry 8 x line + 2 x pin + stuck value with Find's pattern, or NONE, as for an absent pin.
+pub fn pin_book(img: &[u8], entries: &mut [Entry]) -> Counted {
+    counted(unsafe { raw::fortizembo_pin_book(img.as_ptr(), img.len(), entries.as_mut_ptr(), entries.len()) })
+}
+
+/// Alter: puts a new record in the image and brings both books up to date, the lines' and the pins'.
+pub fn alter(img: &mut [u8], book: &mut [Entry], pins: &mut [Entry], line: usize, record: [u8; 10]) -> Counted {
+    let (i, b, p) = (img.as_mut_ptr(), book.as_mut_ptr(), pins.as_mut_ptr());
+    counted(unsafe { raw::fortizembo_alter(i, img.len(), b, book.len(), p, pins.len(), line, record.as_ptr()) })
 }

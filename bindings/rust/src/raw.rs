@@ -11,20 +11,29 @@ pub struct Answer {
     pub third: u64,
 }
 
+/// A fault in numbers: its sort is 0 for a line's, which has no use for the pin, and another number for a pin's.
+#[repr(C)]
+#[derive(Clone, Copy)]
+pub struct FaultNumbers {
+    pub line: usize,
+    pub pin: usize,
+    pub sort: u8,
+    pub stuck: u8,
+}
+
 extern "C" {
     pub fn fortizembo_check(img: *const u8, len: usize) -> Answer;
     pub fn fortizembo_rows(
         img: *const u8,
         len: usize,
         pattern: u64,
-        line: usize,
-        stuck: u8,
+        fault: FaultNumbers,
         good: *mut u8,
         good_len: usize,
         faulty: *mut u8,
         faulty_len: usize,
     ) -> Answer;
-    pub fn fortizembo_judge(img: *const u8, len: usize, pattern: u64, line: usize, stuck: u8) -> Answer;
+    pub fn fortizembo_judge(img: *const u8, len: usize, pattern: u64, fault: FaultNumbers) -> Answer;
     pub fn fortizembo_refresh(
         img: *const u8,
         len: usize,
@@ -46,18 +55,20 @@ extern "C" {
         len: usize,
         named: u64,
         values: u64,
-        line: usize,
-        stuck: u8,
+        fault: FaultNumbers,
         row: *mut u8,
         row_len: usize,
     ) -> Answer;
-    pub fn fortizembo_find(img: *const u8, len: usize, line: usize, stuck: u8) -> Answer;
+    pub fn fortizembo_find(img: *const u8, len: usize, fault: FaultNumbers) -> Answer;
     pub fn fortizembo_book(img: *const u8, len: usize, book: *mut u32, entries: usize) -> Answer;
+    pub fn fortizembo_pin_book(img: *const u8, len: usize, book: *mut u32, entries: usize) -> Answer;
     pub fn fortizembo_alter(
         img: *mut u8,
         len: usize,
         book: *mut u32,
         entries: usize,
+        pins: *mut u32,
+        pin_entries: usize,
         line: usize,
         record: *const u8,
     ) -> Answer;

@@ -1,4 +1,4 @@
-//! Each call with document 01's numbers, and each refusal with nothing lent changed.
+//! Each call with the papers' numbers, and each refusal with nothing lent changed.
 use fortizembo::*;
 use std::fs::read;
 
@@ -7,10 +7,22 @@ fn board(name: &str) -> Vec<u8> {
 }
 
 fn at(line: usize, stuck: u8) -> Fault {
-    Fault { line, stuck }
+    Fault::Line { line, stuck }
+}
+
+fn pin_at(line: usize, pin: usize, stuck: u8) -> Fault {
+    Fault::Pin { line, pin, stuck }
+}
+
+/// A pin book with these entries and NONE everywhere else.
+fn pins<const N: usize>(entries: &[(usize, Entry)]) -> [Entry; N] {
+    let mut all = [NONE; N];
+    entries.iter().for_each(|&(i, entry)| all[i] = entry);
+    all
 }
 
 const AND_0_1: [u8; 10] = [3, 2, 0, 0, 1, 0, 0, 0, 0, 0];
+const NOT_0: [u8; 10] = [2, 1, 0, 0, 0, 0, 0, 0, 0, 0];
 const NOT_1: [u8; 10] = [2, 1, 1, 0, 0, 0, 0, 0, 0, 0];
 
 #[test]
@@ -25,6 +37,8 @@ fn find_gives_the_smallest_pattern_of_s() {
     let s = board("S");
     assert_eq!(find(&s, at(4, 0)), Found::Pattern(0));
     assert_eq!(find(&s, at(4, 1)), Found::Pattern(6));
+    assert_eq!(find(&s, pin_at(4, 0, 0)), Found::Nothing);
+    assert_eq!(find(&s, pin_at(4, 0, 1)), Found::Pattern(0));
 }
 
 #[test]
@@ -34,12 +48,21 @@ fn find_tells_none_from_pattern_0() {
     assert_eq!(find(&t, at(1, 0)), Found::Pattern(0));
 }
 
+fn judged(answer: Judged, fault: Fault) -> Vec<u64> {
+    let s = board("S");
+    (0..16).filter(|&p| judge(&s, p, fault) == answer).collect()
+}
+
 #[test]
 fn judge_says_yes_to_6_7_and_14_alone() {
-    let s = board("S");
-    let yes: Vec<u64> = (0..16).filter(|&p| judge(&s, p, at(4, 1)) == Judged::Yes).collect();
-    let no = (0..16).filter(|&p| judge(&s, p, at(4, 1)) == Judged::No).count();
-    assert_eq!((yes, no), (vec![6, 7, 14], 13));
+    assert_eq!(judged(Judged::Yes, at(4, 1)), [6, 7, 14]);
+    assert_eq!(judged(Judged::No, at(4, 1)).len(), 13);
+}
+
+#[test]
+fn judge_says_yes_of_a_pin_to_0_alone() {
+    assert_eq!(judged(Judged::Yes, pin_at(4, 0, 1)), [0]);
+    assert_eq!(judged(Judged::No, pin_at(4, 0, 1)).len(), 15);
 }
 
 #[test]
@@ -54,6 +77,17 @@ fn rows_of_t_and_their_parts() {
     for start in [3, 4, usize::MAX] {
         assert_eq!(show(&good, &faulty, true, start), [0; 0]);
     }
+}
+
+#[test]
+fn a_pin_is_held_for_its_gate_alone() {
+    let (t, mut good, mut faulty) = (board("T"), [9; 3], [9; 3]);
+    assert_eq!(rows(&t, 1, pin_at(2, 0, 0), &mut good, &mut faulty), Filled::Done);
+    assert_eq!((good, faulty), ([1, 0, 1], [1, 0, 0]));
+    assert_eq!(rows(&t, 0, pin_at(2, 1, 0), &mut good, &mut faulty), Filled::Done);
+    assert_eq!((good, faulty), ([0, 1, 1], [0, 1, 0]));
+    assert_eq!(rows(&t, 0, pin_at(1, 0, 1), &mut good, &mut faulty), Filled::Done);
+    assert_eq!((good, faulty), ([0, 1, 1], [0, 0, 0]));
 }
 
 #[test]
@@ -75,23 +109,50 @@ fn five_values_of_t() {
 }
 
 #[test]
-fn book_of_t_and_t_altered() {
-    let (mut t, mut entries) = (board("T"), [7; 6]);
+fn five_values_of_pins_of_t() {
+    let (t, mut row) = (board("T"), [9; 3]);
+    assert_eq!(five(&t, 1, 0, pin_at(1, 0, 1), &mut row), Driven::Count(1));
+    assert_eq!(row, [0, 3, 3]);
+    assert_eq!(five(&t, 1, 1, pin_at(1, 0, 0), &mut row), Driven::Count(0));
+    assert_eq!(row, [1, 4, 1]);
+    assert_eq!(five(&t, 1, 0, pin_at(2, 1, 0), &mut row), Driven::Count(1));
+    assert_eq!(row, [0, 1, 3]);
+    assert_eq!(five(&t, 0, 0, pin_at(2, 1, 0), &mut row), Driven::Count(0));
+    assert_eq!(row, [2, 2, 2]);
+}
+
+#[test]
+fn books_of_t_and_t_altered() {
+    let (mut t, mut entries, mut pin_entries) = (board("T"), [7; 6], [7; 24]);
     assert_eq!(book(&t, &mut entries), Counted::Entries(2));
     assert_eq!(entries, [NONE, NONE, 0, NONE, 0, NONE]);
-    assert_eq!(alter(&mut t, &mut entries, 2, AND_0_1), Counted::Entries(2));
+    assert_eq!(pin_book(&t, &mut pin_entries), Counted::Entries(3));
+    assert_eq!(pin_entries, pins(&[(9, 0), (16, 1), (18, 0)]));
+    assert_eq!(alter(&mut t, &mut entries, &mut pin_entries, 2, AND_0_1), Counted::Entries(5));
     assert_eq!(entries, [NONE, NONE, NONE, 1, NONE, 0]);
+    assert_eq!(pin_entries, pins(&[(8, 1), (17, 0), (19, 1)]));
     assert_eq!(t[20..30], AND_0_1);
 }
 
 #[test]
-fn h_altered_keeps_an_untouched_99() {
-    let (mut h, mut entries) = (board("H"), [7; 8]);
+fn a_pin_that_the_new_gate_lacks_becomes_none() {
+    let (mut t, mut entries, mut pin_entries) = (board("T"), [7; 6], [7; 24]);
+    assert_eq!(alter(&mut t, &mut entries, &mut pin_entries, 2, NOT_0), Counted::Entries(6));
+    assert_eq!(entries, [1, 0, NONE, NONE, 0, 1]);
+    assert_eq!(pin_entries, pins(&[(16, 1), (17, 0)]));
+}
+
+#[test]
+fn h_altered_keeps_untouched_99s() {
+    let (mut h, mut entries, mut pin_entries) = (board("H"), [7; 8], [7; 32]);
     assert_eq!(book(&h, &mut entries), Counted::Entries(8));
     assert_eq!(entries, [1, 0, 2, 0, 0, 1, 2, 0]);
-    entries[0] = 99;
-    assert_eq!(alter(&mut h, &mut entries, 3, NOT_1), Counted::Entries(8));
+    assert_eq!(pin_book(&h, &mut pin_entries), Counted::Entries(4));
+    assert_eq!(pin_entries, pins(&[(16, 1), (17, 0), (24, 2), (25, 0)]));
+    (entries[0], pin_entries[7], pin_entries[8]) = (99, 99, 99);
+    assert_eq!(alter(&mut h, &mut entries, &mut pin_entries, 3, NOT_1), Counted::Entries(13));
     assert_eq!(entries, [99, 0, 2, 0, 0, 1, 0, 2]);
+    assert_eq!(pin_entries, pins(&[(7, 99), (16, 1), (17, 0), (24, 2), (25, 0)]));
 }
 
 #[test]
@@ -110,15 +171,49 @@ fn bad_images_are_refused_by_their_number() {
 
 #[test]
 fn bad_questions_are_refused_and_nothing_is_changed() {
-    let mut t = board("T");
-    let (old, mut good, mut faulty, mut row, mut entries) = (t.clone(), [9; 3], [9; 3], [0, 2, 0], [7; 6]);
-    assert_eq!(find(&t, at(3, 0)), Found::Refused(Refusal::Line));
-    assert_eq!(judge(&t, 1, at(2, 2)), Judged::Refused(Refusal::Stuck));
-    assert_eq!(rows(&t, 2, at(2, 0), &mut good, &mut faulty), Filled::Refused(Refusal::Pattern));
-    assert_eq!(rows(&t, 1, at(2, 0), &mut good, &mut faulty[..2]), Filled::Refused(Refusal::Lent));
-    assert_eq!(five(&t, 0, 1, at(2, 0), &mut row), Driven::Refused(Refusal::Pattern));
+    let t = board("T");
+    let (mut good, mut faulty, mut row) = ([9; 3], [9; 3], [0, 2, 0]);
+    for fault in [at(2, 0), pin_at(2, 1, 0)] {
+        assert_eq!(rows(&t, 2, fault, &mut good, &mut faulty), Filled::Refused(Refusal::Pattern));
+        assert_eq!(rows(&t, 1, fault, &mut good, &mut faulty[..2]), Filled::Refused(Refusal::Lent));
+        assert_eq!(five(&t, 0, 1, fault, &mut row), Driven::Refused(Refusal::Pattern));
+    }
+    for (line, stuck, refusal) in [(3, 2, Refusal::Line), (usize::MAX, 0, Refusal::Line), (2, 2, Refusal::Stuck)] {
+        for fault in [at(line, stuck), pin_at(line, usize::MAX, stuck)] {
+            assert_eq!(find(&t, fault), Found::Refused(refusal));
+            assert_eq!(judge(&t, 1, fault), Judged::Refused(refusal));
+        }
+    }
     assert_eq!(refresh(&t, 1, 2, &mut row), Filled::Refused(Refusal::Row));
-    assert_eq!(book(&t, &mut entries[..5]), Counted::Refused(Refusal::Lent));
-    assert_eq!(alter(&mut t, &mut entries, 0, NOT_1), Counted::Refused(Refusal::Alteration));
-    assert_eq!((t, good, faulty, row, entries), (old, [9; 3], [9; 3], [0, 2, 0], [7; 6]));
+    assert_eq!((good, faulty, row), ([9; 3], [9; 3], [0, 2, 0]));
+}
+
+#[test]
+fn absent_pins_are_refused_and_nothing_is_changed() {
+    let t = board("T");
+    let (mut good, mut faulty, mut row) = ([9; 3], [9; 3], [9; 3]);
+    for (line, pin) in [(0, 0), (1, 1), (2, 2), (2, 3), (2, 1 << 63), (2, usize::MAX)] {
+        let fault = pin_at(line, pin, 1);
+        assert_eq!(rows(&t, 2, fault, &mut good, &mut faulty), Filled::Refused(Refusal::Pin));
+        assert_eq!(judge(&t, 2, fault), Judged::Refused(Refusal::Pin));
+        assert_eq!(five(&t, 2, 2, fault, &mut row), Driven::Refused(Refusal::Pin));
+        assert_eq!(find(&t, fault), Found::Refused(Refusal::Pin));
+    }
+    assert_eq!((good, faulty, row), ([9; 3], [9; 3], [9; 3]));
+}
+
+#[test]
+fn bad_books_and_alterations_are_refused_and_nothing_is_changed() {
+    let mut t = board("T");
+    let (old, mut entries, mut pin_entries) = (t.clone(), [7; 24], [8; 25]);
+    for (b, p) in [(6, 23), (6, 25), (6, 0), (6, 7), (0, 24), (5, 24), (7, 24), (24, 6)] {
+        let (short, long) = (&mut entries[..b], &mut pin_entries[..p]);
+        assert_eq!(alter(&mut t, short, long, 0, NOT_1), Counted::Refused(Refusal::Lent));
+        assert_eq!(alter(&mut t, short, long, 3, NOT_1), Counted::Refused(Refusal::Line));
+        assert!(b == 6 || book(&t, short) == Counted::Refused(Refusal::Lent));
+        assert!(p == 24 || pin_book(&t, long) == Counted::Refused(Refusal::Lent));
+    }
+    let (book, pins) = (&mut entries[..6], &mut pin_entries[..24]);
+    assert_eq!(alter(&mut t, book, pins, 0, NOT_1), Counted::Refused(Refusal::Alteration));
+    assert_eq!((t, entries, pin_entries), (old, [7; 24], [8; 25]));
 }
