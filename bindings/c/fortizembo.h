@@ -5,8 +5,8 @@
    lent is changed. No proof can see what stands behind a pointer. So this is the caller's duty, as C has it:
    - a pointer is not null, and as many elements as its length says are there, bytes for an image or a row, uint32_t for a book, ten bytes for a
      record; so also where the length is 0;
-   - a buffer without const may be written, overlaps no other buffer of the call, as one book may not overlap the other, and nobody else uses it
-     while the call runs;
+   - a buffer without const may be written, overlaps no other buffer of the call, so that two books lie apart, and nobody else uses it while
+     the call runs;
    - a number fits its parameter's type: C cuts a wider one before the call, so that stuck value 256 would arrive as 0 (see -Wconversion).
    A call keeps nothing, so calls may run side by side. */
 #ifndef FORTIZEMBO_H
