@@ -207,13 +207,13 @@ fn bad_books_and_alterations_are_refused_and_nothing_is_changed() {
     let mut t = board("T");
     let (old, mut entries, mut pin_entries) = (t.clone(), [7; 24], [8; 25]);
     for (b, p) in [(6, 23), (6, 25), (6, 0), (6, 7), (0, 24), (5, 24), (7, 24), (24, 6)] {
-        let (short, long) = (&mut entries[..b], &mut pin_entries[..p]);
-        assert_eq!(alter(&mut t, short, long, 0, NOT_1), Counted::Refused(Refusal::Lent));
-        assert_eq!(alter(&mut t, short, long, 3, NOT_1), Counted::Refused(Refusal::Line));
-        assert!(b == 6 || book(&t, short) == Counted::Refused(Refusal::Lent));
-        assert!(p == 24 || pin_book(&t, long) == Counted::Refused(Refusal::Lent));
+        let (lines_lent, pins_lent) = (&mut entries[..b], &mut pin_entries[..p]);
+        assert_eq!(alter(&mut t, lines_lent, pins_lent, 0, NOT_1), Counted::Refused(Refusal::Lent));
+        assert_eq!(alter(&mut t, lines_lent, pins_lent, 3, NOT_1), Counted::Refused(Refusal::Line));
+        assert!(b == 6 || book(&t, lines_lent) == Counted::Refused(Refusal::Lent));
+        assert!(p == 24 || pin_book(&t, pins_lent) == Counted::Refused(Refusal::Lent));
     }
-    let (book, pins) = (&mut entries[..6], &mut pin_entries[..24]);
-    assert_eq!(alter(&mut t, book, pins, 0, NOT_1), Counted::Refused(Refusal::Alteration));
+    let (lines_lent, pins_lent) = (&mut entries[..6], &mut pin_entries[..24]);
+    assert_eq!(alter(&mut t, lines_lent, pins_lent, 0, NOT_1), Counted::Refused(Refusal::Alteration));
     assert_eq!((t, entries, pin_entries), (old, [7; 24], [8; 25]));
 }
