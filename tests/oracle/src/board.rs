@@ -2,11 +2,51 @@
 
 use crate::image::{Board, Record};
 
-/// One line held at 0 or at 1.
+/// A fault of either sort: a line held at 0 or at 1 for all that read it, or one pin held for its gate alone.
 #[derive(Clone, Copy, Debug, PartialEq, Eq)]
 pub struct Fault {
-    pub line: usize,
+    pub line: u64,
+    pub pin: Option<u64>,
     pub stuck: u8,
+}
+
+impl Fault {
+    // Gives the fault of a whole line.
+    pub fn on_line(line: u64, stuck: u8) -> Fault {
+        Fault { line, pin: None, stuck }
+    }
+
+    // Gives the fault of one pin of a line's gate.
+    pub fn on_pin(line: u64, pin: u64, stuck: u8) -> Fault {
+        Fault { line, pin: Some(pin), stuck }
+    }
+
+    // Gives whether the fault holds this whole line.
+    fn holds_line(&self, line: usize) -> bool {
+        self.line == line as u64 && self.pin.is_none()
+    }
+
+    // Gives whether the fault holds this pin of this line's gate.
+    fn holds_pin(&self, line: usize, pin: usize) -> bool {
+        self.line == line as u64 && self.pin == Some(pin as u64)
+    }
+
+    // Gives whether the fault is of a pin that its line's gate does not have; every pin of an input is such.
+    pub fn is_absent(&self, board: &Board) -> bool {
+        match self.pin {
+            None => false,
+            Some(pin) => pin >= u64::from(board.records[self.line as usize].count),
+        }
+    }
+
+    // Gives the fault's place in the book of its sort.
+    pub fn entry(&self) -> usize {
+        let place = match self.pin {
+            None => 2 * self.line,
+            Some(pin) => 8 * self.line + 2 * pin,
+        };
+        place as usize + self.stuck as usize
+    }
 }
 
 /// How many patterns Find runs side by side, one byte each.
@@ -32,21 +72,30 @@ pub fn gate(kind: u8, count: u8, ones: u8) -> u8 {
     u8::from(value != opposite)
 }
 
-// Gives a line's own value from its record, the pattern and the row below it, before any fault.
-fn line_value(record: &Record, line: usize, pattern: u64, row: &[u8]) -> u8 {
+// Gives what a gate reads on each of its used pins, from the row below it.
+fn pin_values(record: &Record, line: usize, fault: Option<Fault>, row: &[u8]) -> Vec<u8> {
+    let read = |(pin, &from): (usize, &u16)| match fault {
+        Some(fault) if fault.holds_pin(line, pin) => fault.stuck,
+        _ => row[from as usize],
+    };
+    record.used().iter().enumerate().map(read).collect()
+}
+
+// Gives a line's own value from its record, the pattern and the row below it, before any fault of the whole line.
+fn line_value(record: &Record, line: usize, pattern: u64, fault: Option<Fault>, row: &[u8]) -> u8 {
     if record.is_input() {
         return (pattern >> line & 1) as u8;
     }
-    let ones = record.used().iter().filter(|&&pin| row[pin as usize] == 1).count();
+    let ones = pin_values(record, line, fault, row).iter().filter(|&&value| value == 1).count();
     gate(record.kind, record.count, ones as u8)
 }
 
 // Gives the row's bytes from a line on, for a pattern and, on the faulty board, a fault.
 pub fn run(board: &Board, pattern: u64, fault: Option<Fault>, from: usize, row: &mut [u8]) {
     for line in from..board.lines() {
-        let value = line_value(&board.records[line], line, pattern, row);
+        let value = line_value(&board.records[line], line, pattern, fault, row);
         row[line] = match fault {
-            Some(fault) if fault.line == line => fault.stuck,
+            Some(fault) if fault.holds_line(line) => fault.stuck,
             _ => value,
         };
     }
@@ -78,15 +127,18 @@ fn gate_block(kind: u8, count: u8, ones: &Block, own: &mut Block) {
     }
 }
 
-// Gives one line's values for the patterns from `first` on, side by side, before any fault.
-fn line_block(record: &Record, line: usize, first: u64, below: &[Block], own: &mut Block) {
+// Gives one line's values for the patterns from `first` on, side by side, before any fault of the whole line.
+fn line_block(record: &Record, line: usize, first: u64, fault: Option<Fault>, below: &[Block], own: &mut Block) {
     if record.is_input() {
         (0..SIDE).for_each(|k| own[k] = ((first + k as u64) >> line & 1) as u8);
         return;
     }
     let mut ones = [0; SIDE];
-    for &pin in record.used() {
-        let values = &below[pin as usize];
+    for (pin, &from) in record.used().iter().enumerate() {
+        let values = match fault {
+            Some(fault) if fault.holds_pin(line, pin) => &[fault.stuck; SIDE],
+            _ => &below[from as usize],
+        };
         (0..SIDE).for_each(|k| ones[k] += values[k]);
     }
     gate_block(record.kind, record.count, &ones, own);
@@ -96,9 +148,9 @@ fn line_block(record: &Record, line: usize, first: u64, below: &[Block], own: &m
 fn run_block(board: &Board, first: u64, fault: Option<Fault>, blocks: &mut [Block]) {
     for line in 0..board.lines() {
         let (below, rest) = blocks.split_at_mut(line);
-        line_block(&board.records[line], line, first, below, &mut rest[0]);
+        line_block(&board.records[line], line, first, fault, below, &mut rest[0]);
         if let Some(fault) = fault {
-            if fault.line == line {
+            if fault.holds_line(line) {
                 rest[0] = [fault.stuck; SIDE];
             }
         }
@@ -194,7 +246,7 @@ pub fn gate_five(kind: u8, pins: &[u8]) -> u8 {
     }
 }
 
-// Gives what a line holds among the five, from its own value there, when it is the fault's line.
+// Gives what the fault's line or pin holds among the five, from the value it has without the fault there.
 fn struck(value: u8, stuck: u8) -> u8 {
     if value == X {
         return X;
@@ -202,19 +254,31 @@ fn struck(value: u8, stuck: u8) -> u8 {
     joined(halves(value).0, stuck)
 }
 
+// Gives what a gate reads among the five on each of its used pins, from the row below it.
+fn pins_five(record: &Record, line: usize, fault: Fault, row: &[u8]) -> Vec<u8> {
+    let read = |(pin, &from): (usize, &u16)| {
+        let value = row[from as usize];
+        if fault.holds_pin(line, pin) {
+            struck(value, fault.stuck)
+        } else {
+            value
+        }
+    };
+    record.used().iter().enumerate().map(read).collect()
+}
+
 // Gives the five-valued row for a partial pattern (inputs named, their values) and a fault.
 pub fn five_row(board: &Board, named: u64, values: u64, fault: Fault) -> Vec<u8> {
     let mut row: Vec<u8> = Vec::new();
     for (line, record) in board.records.iter().enumerate() {
         let value = if !record.is_input() {
-            let pins: Vec<u8> = record.used().iter().map(|&pin| row[pin as usize]).collect();
-            gate_five(record.kind, &pins)
+            gate_five(record.kind, &pins_five(record, line, fault, &row))
         } else if named >> line & 1 == 1 {
             (values >> line & 1) as u8
         } else {
             X
         };
-        row.push(if line == fault.line { struck(value, fault.stuck) } else { value });
+        row.push(if fault.holds_line(line) { struck(value, fault.stuck) } else { value });
     }
     row
 }

@@ -28,11 +28,11 @@ fn named_line(board: &Board, line: u64) -> Result<usize, Refusal> {
     Ok(line as usize)
 }
 
-// Gives the fault, or refusal 6 or 7.
-fn named_fault(board: &Board, line: u64, stuck: u8) -> Result<Fault, Refusal> {
-    let line = named_line(board, line)?;
-    refuse_when(stuck > 1, 7)?;
-    Ok(Fault { line, stuck })
+// Gives refusal 6, 7 or 12 when it applies to the fault.
+fn named_fault(board: &Board, fault: Fault) -> Result<(), Refusal> {
+    named_line(board, fault.line)?;
+    refuse_when(fault.stuck > 1, 7)?;
+    refuse_when(fault.is_absent(board), 12)
 }
 
 // Gives whether a number has a bit at or above the input count.
@@ -47,16 +47,9 @@ pub fn check(image: &[u8]) -> Result<Counts, Refusal> {
 }
 
 // Gives the good and the faulty row in the two lent rows.
-pub fn rows(
-    image: &[u8],
-    pattern: u64,
-    line: u64,
-    stuck: u8,
-    good: &mut [u8],
-    faulty: &mut [u8],
-) -> Result<(), Refusal> {
+pub fn rows(image: &[u8], pattern: u64, fault: Fault, good: &mut [u8], faulty: &mut [u8]) -> Result<(), Refusal> {
     let board = image::decode(image)?;
-    let fault = named_fault(&board, line, stuck)?;
+    named_fault(&board, fault)?;
     refuse_when(too_high(&board, pattern), 8)?;
     refuse_when(good.len() != board.lines() || faulty.len() != board.lines(), 9)?;
     board::run(&board, pattern, None, 0, good);
@@ -65,27 +58,39 @@ pub fn rows(
 }
 
 // Gives whether the pattern shows the fault.
-pub fn judge(image: &[u8], pattern: u64, line: u64, stuck: u8) -> Result<bool, Refusal> {
+pub fn judge(image: &[u8], pattern: u64, fault: Fault) -> Result<bool, Refusal> {
     let board = image::decode(image)?;
-    let fault = named_fault(&board, line, stuck)?;
+    named_fault(&board, fault)?;
     refuse_when(too_high(&board, pattern), 8)?;
     Ok(board::shows(&board, pattern, fault))
 }
 
 // Gives the smallest pattern that shows the fault, or none.
-pub fn find(image: &[u8], line: u64, stuck: u8) -> Result<Option<u64>, Refusal> {
+pub fn find(image: &[u8], fault: Fault) -> Result<Option<u64>, Refusal> {
     let board = image::decode(image)?;
-    let fault = named_fault(&board, line, stuck)?;
+    named_fault(&board, fault)?;
     Ok(board::find(&board, fault))
 }
 
-// Gives the entries of the named lines afresh: Find's answer for each at 0 and at 1, or the number for none.
-fn fill_entries(board: &Board, lines: &[usize], book: &mut [u32]) {
-    let both = |&line: &usize| [Fault { line, stuck: 0 }, Fault { line, stuck: 1 }];
-    let faults: Vec<Fault> = lines.iter().flat_map(both).collect();
-    let answers = board::find_all(board, &faults);
-    for (fault, answer) in faults.iter().zip(answers) {
-        book[2 * fault.line + fault.stuck as usize] = match answer {
+// Gives the faults of these whole lines, in the book's order.
+fn line_faults(lines: &[u64]) -> Vec<Fault> {
+    lines.iter().flat_map(|&line| (0..2).map(move |stuck| Fault::on_line(line, stuck))).collect()
+}
+
+// Gives the faults of these lines' pins, absent ones too, in the pin book's order.
+fn pin_faults(lines: &[u64]) -> Vec<Fault> {
+    let on = |line: u64| (0..8).map(move |place| Fault::on_pin(line, place / 2, (place % 2) as u8));
+    lines.iter().flat_map(|&line| on(line)).collect()
+}
+
+// Gives these faults' entries afresh: Find's answer for each, or the number for none, which an absent pin has too.
+fn fill_entries(board: &Board, faults: &[Fault], book: &mut [u32]) {
+    let (absent, present): (Vec<Fault>, Vec<Fault>) = faults.iter().partition(|fault| fault.is_absent(board));
+    for fault in &absent {
+        book[fault.entry()] = NONE;
+    }
+    for (fault, answer) in present.iter().zip(board::find_all(board, &present)) {
+        book[fault.entry()] = match answer {
             Some(pattern) => pattern as u32,
             None => NONE,
         };
@@ -101,9 +106,18 @@ fn found(book: &[u32]) -> usize {
 pub fn book(image: &[u8], book: &mut [u32]) -> Result<usize, Refusal> {
     let board = image::decode(image)?;
     refuse_when(book.len() != 2 * board.lines(), 9)?;
-    let lines: Vec<usize> = (0..board.lines()).collect();
-    fill_entries(&board, &lines, book);
+    let lines: Vec<u64> = (0..board.lines() as u64).collect();
+    fill_entries(&board, &line_faults(&lines), book);
     Ok(found(book))
+}
+
+// Gives the whole pin book in the lent pin book, and how many of its entries are not none.
+pub fn pin_book(image: &[u8], pins: &mut [u32]) -> Result<usize, Refusal> {
+    let board = image::decode(image)?;
+    refuse_when(pins.len() != 8 * board.lines(), 9)?;
+    let lines: Vec<u64> = (0..board.lines() as u64).collect();
+    fill_entries(&board, &pin_faults(&lines), pins);
+    Ok(found(pins))
 }
 
 // Gives whether an alteration is refused by 10: an input altered, or a record of kind 0 or bad there.
@@ -111,20 +125,27 @@ fn bad_alteration(board: &Board, line: usize, record: &Record) -> bool {
     board.records[line].is_input() || record.is_input() || image::bad_field(record, line, board.inputs, true).is_some()
 }
 
-// Gives the image with the new record, the book with touched entries fresh, and how many entries are not none.
-pub fn alter(image: &mut [u8], line: u64, bytes: &[u8; RECORD], book: &mut [u32]) -> Result<usize, Refusal> {
+// Gives the image with the new record, touched entries of both books fresh, and how many of both are not none.
+pub fn alter(
+    image: &mut [u8],
+    line: u64,
+    bytes: &[u8; RECORD],
+    book: &mut [u32],
+    pins: &mut [u32],
+) -> Result<usize, Refusal> {
     let before = image::decode(image)?;
     let line = named_line(&before, line)?;
-    refuse_when(book.len() != 2 * before.lines(), 9)?;
+    refuse_when(book.len() != 2 * before.lines() || pins.len() != 8 * before.lines(), 9)?;
     let record = Record::from_bytes(bytes);
     refuse_when(bad_alteration(&before, line, &record), 10)?;
     let start = image::record_start(image, &before, line);
     image[start..start + RECORD].copy_from_slice(bytes);
     let after = image::decode(image)?;
     let touched = board::touched(&before, &after, line);
-    let lines: Vec<usize> = (0..after.lines()).filter(|&other| touched[other]).collect();
-    fill_entries(&after, &lines, book);
-    Ok(found(book))
+    let lines: Vec<u64> = (0..after.lines() as u64).filter(|&other| touched[other as usize]).collect();
+    fill_entries(&after, &line_faults(&lines), book);
+    fill_entries(&after, &pin_faults(&lines), pins);
+    Ok(found(book) + found(pins))
 }
 
 // Gives the good row rewritten from the named line on.
@@ -147,9 +168,9 @@ pub fn show(row: &[u8], from: u64) -> &[u8] {
 }
 
 // Gives the five-valued row in the lent row, and how many output lines hold D or D-bar.
-pub fn five(image: &[u8], named: u64, values: u64, line: u64, stuck: u8, row: &mut [u8]) -> Result<usize, Refusal> {
+pub fn five(image: &[u8], named: u64, values: u64, fault: Fault, row: &mut [u8]) -> Result<usize, Refusal> {
     let board = image::decode(image)?;
-    let fault = named_fault(&board, line, stuck)?;
+    named_fault(&board, fault)?;
     let unnamed = values & !named != 0;
     refuse_when(too_high(&board, named) || too_high(&board, values) || unnamed, 8)?;
     refuse_when(row.len() != board.lines(), 9)?;

@@ -1,5 +1,6 @@
 //! The bench console: one command a line, one answer a line.
 
+use crate::board::Fault;
 use crate::calls;
 use crate::image::{Refusal, RECORD};
 use crate::text::counts_text;
@@ -16,9 +17,11 @@ pub const MOST_LOADED: usize = 65_536;
 pub const MOST_ROW: usize = 8_192;
 /// The longest book the console lends.
 pub const MOST_BOOK: usize = 16_384;
+/// The longest pin book the console lends.
+pub const MOST_PINS: usize = 65_536;
 
 const HELP: &str =
-    "help: load open save image lend put check rows judge find book alter refresh five show entries help";
+    "help: load open save image lend put check rows judge find book alter refresh five show entries pin help";
 
 /// The reason given after a question mark.
 type Reason = &'static str;
@@ -35,6 +38,7 @@ pub struct Console {
     good: Vec<u8>,
     faulty: Vec<u8>,
     book: Vec<u32>,
+    pins: Vec<u32>,
 }
 
 // Gives the number a word stands for: decimal digits only, and it fits 64 bits.
@@ -98,12 +102,29 @@ fn hex(bytes: &[u8]) -> String {
     bytes.iter().map(|byte| format!("{byte:02x}")).collect()
 }
 
-// Gives the line and the stuck value of a FAULT word; a stuck value over 255 is handed on as 255.
-fn fault(word: &[u8]) -> Result<(u64, u8), Reason> {
+// Gives the fault of a FAULT word, `LINE/STUCK` or `LINE.PIN/STUCK`; a stuck value over 255 is handed on as 255.
+fn fault(word: &[u8]) -> Result<Fault, Reason> {
     let slash = word.iter().position(|&byte| byte == b'/').ok_or(UNREAD)?;
-    let line = number(&word[..slash])?;
-    let stuck = number(&word[slash + 1..])?;
-    Ok((line, stuck.min(255) as u8))
+    let (place, stuck) = (&word[..slash], number(&word[slash + 1..])?.min(255) as u8);
+    match place.iter().position(|&byte| byte == b'.') {
+        None => Ok(Fault::on_line(number(place)?, stuck)),
+        Some(dot) => Ok(Fault::on_pin(number(&place[..dot])?, number(&place[dot + 1..])?, stuck)),
+    }
+}
+
+// Gives `lent` after putting one number in a book.
+fn put_number(book: &mut [u32], place: &[u8], value: &[u8]) -> Answer {
+    let (place, value) = (number(place)?, number(value)?);
+    if place >= book.len() as u64 {
+        return Err("past the end");
+    }
+    book[place as usize] = u32::try_from(value).map_err(|_| "wider than an entry")?;
+    Ok("lent".to_string())
+}
+
+// Gives a book's numbers, each after a space.
+fn numbers(book: &[u32]) -> String {
+    book.iter().map(|entry| format!(" {entry}")).collect()
 }
 
 // Gives the file's bytes; none where there are more of them than the console takes.
@@ -112,6 +133,11 @@ fn file_bytes(path: &[u8]) -> io::Result<Option<Vec<u8>>> {
     let file = File::open(OsStr::from_bytes(path))?;
     file.take(MOST_LOADED as u64 + 1).read_to_end(&mut bytes)?;
     Ok(if bytes.len() > MOST_LOADED { None } else { Some(bytes) })
+}
+
+// Gives how many entries were found, of how many, or the refusal's one line.
+fn found(outcome: Result<usize, Refusal>, entries: usize) -> Answer {
+    said(outcome, |found| format!("found {found} of {entries}"))
 }
 
 // Gives a call's answer: its text, or its refusal's one line.
@@ -145,12 +171,15 @@ impl Console {
             [b"image"] => Ok(format!("image {}", hex(&self.image))),
             [b"lend", b"rows", good, faulty] => self.lend_rows(good, faulty),
             [b"lend", b"book", count] => self.lend_book(count),
+            [b"lend", b"pins", count] => self.lend_pins(count),
             [b"put", b"good", hex] => self.put_good(hex),
             [b"put", b"faulty", hex] => self.put_faulty(hex),
-            [b"put", b"entry", place, value] => self.put_entry(place, value),
+            [b"put", b"entry", place, value] => put_number(&mut self.book, place, value),
+            [b"put", b"pin", place, value] => put_number(&mut self.pins, place, value),
             [b"show", b"good", from] => Ok(format!("row {}", hex(calls::show(&self.good, number(from)?)))),
             [b"show", b"faulty", from] => Ok(format!("row {}", hex(calls::show(&self.faulty, number(from)?)))),
-            [b"entries"] => Ok(self.entries()),
+            [b"entries"] => Ok(format!("entries{}", numbers(&self.book))),
+            [b"pin", b"entries"] => Ok(format!("pins{}", numbers(&self.pins))),
             [b"help"] => Ok(HELP.to_string()),
             _ => self.call(words),
         }
@@ -164,6 +193,7 @@ impl Console {
             [b"judge", pattern, fault] => self.judge(pattern, fault),
             [b"find", fault] => self.find(fault),
             [b"book"] => self.fill_book(),
+            [b"pin", b"book"] => self.fill_pin_book(),
             [b"alter", line, hex] => self.alter(line, hex),
             [b"refresh", line, pattern] => self.refresh(line, pattern),
             [b"five", named, values, fault] => self.five(named, values, fault),
@@ -171,13 +201,14 @@ impl Console {
         }
     }
 
-    // Gives Check's answer after taking the image and lending fresh rows and a fresh book for it.
+    // Gives Check's answer after taking the image and lending fresh rows and fresh books for it.
     fn load(&mut self, image: Vec<u8>) -> Answer {
         let lines = calls::check(&image).map_or(0, |counts| counts.lines);
         self.image = image;
         self.good = vec![9; lines];
         self.faulty = vec![9; lines];
         self.book = vec![99; 2 * lines];
+        self.pins = vec![99; 8 * lines];
         self.check()
     }
 
@@ -211,6 +242,12 @@ impl Console {
         Ok("lent".to_string())
     }
 
+    // Gives `lent` after lending a pin book of this length.
+    fn lend_pins(&mut self, count: &[u8]) -> Answer {
+        self.pins = vec![99; length(count, MOST_PINS)?];
+        Ok("lent".to_string())
+    }
+
     // Gives `lent` after lending these bytes as the good row.
     fn put_good(&mut self, hex: &[u8]) -> Answer {
         self.good = bytes(hex, MOST_ROW)?;
@@ -223,27 +260,6 @@ impl Console {
         Ok("lent".to_string())
     }
 
-    // Gives `lent` after putting one number in the book.
-    fn put_entry(&mut self, place: &[u8], value: &[u8]) -> Answer {
-        let (place, value) = (number(place)?, number(value)?);
-        if place >= self.book.len() as u64 {
-            return Err("past the end");
-        }
-        self.book[place as usize] = u32::try_from(value).map_err(|_| "wider than an entry")?;
-        Ok("lent".to_string())
-    }
-
-    // Gives the book's numbers.
-    fn entries(&self) -> String {
-        let numbers: String = self.book.iter().map(|entry| format!(" {entry}")).collect();
-        format!("entries{numbers}")
-    }
-
-    // Gives how many entries were found, of how many.
-    fn found(&self, outcome: Result<usize, Refusal>) -> Answer {
-        said(outcome, |found| format!("found {} of {}", found, self.book.len()))
-    }
-
     // Gives Check's answer.
     fn check(&self) -> Answer {
         said(calls::check(&self.image), |counts| counts_text(&counts))
@@ -251,23 +267,19 @@ impl Console {
 
     // Gives the answer of Rows, into the two lent rows.
     fn rows(&mut self, pattern: &[u8], word: &[u8]) -> Answer {
-        let pattern = number(pattern)?;
-        let (line, stuck) = fault(word)?;
-        let outcome = calls::rows(&self.image, pattern, line, stuck, &mut self.good, &mut self.faulty);
+        let outcome = calls::rows(&self.image, number(pattern)?, fault(word)?, &mut self.good, &mut self.faulty);
         said(outcome, |()| "filled".to_string())
     }
 
     // Gives the answer of Judge.
     fn judge(&self, pattern: &[u8], word: &[u8]) -> Answer {
-        let pattern = number(pattern)?;
-        let (line, stuck) = fault(word)?;
-        said(calls::judge(&self.image, pattern, line, stuck), |yes| if yes { "yes" } else { "no" }.to_string())
+        let outcome = calls::judge(&self.image, number(pattern)?, fault(word)?);
+        said(outcome, |yes| if yes { "yes" } else { "no" }.to_string())
     }
 
     // Gives the answer of Find.
     fn find(&self, word: &[u8]) -> Answer {
-        let (line, stuck) = fault(word)?;
-        said(calls::find(&self.image, line, stuck), |pattern| match pattern {
+        said(calls::find(&self.image, fault(word)?), |pattern| match pattern {
             Some(pattern) => pattern.to_string(),
             None => "none".to_string(),
         })
@@ -275,16 +287,20 @@ impl Console {
 
     // Gives the answer of Book, into the lent book.
     fn fill_book(&mut self) -> Answer {
-        let outcome = calls::book(&self.image, &mut self.book);
-        self.found(outcome)
+        found(calls::book(&self.image, &mut self.book), self.book.len())
     }
 
-    // Gives the answer of Alter, on the image and the lent book.
+    // Gives the answer of the pin book's filling, into the lent pin book.
+    fn fill_pin_book(&mut self) -> Answer {
+        found(calls::pin_book(&self.image, &mut self.pins), self.pins.len())
+    }
+
+    // Gives the answer of Alter, on the image and both lent books.
     fn alter(&mut self, line: &[u8], hex: &[u8]) -> Answer {
         let line = number(line)?;
         let record: [u8; RECORD] = bytes(hex, RECORD)?.try_into().map_err(|_| "a record is 10 bytes")?;
-        let outcome = calls::alter(&mut self.image, line, &record, &mut self.book);
-        self.found(outcome)
+        let outcome = calls::alter(&mut self.image, line, &record, &mut self.book, &mut self.pins);
+        found(outcome, self.book.len() + self.pins.len())
     }
 
     // Gives the answer of Refresh, on the lent good row.
@@ -296,8 +312,7 @@ impl Console {
     // Gives the answer of Five values, into the lent good row.
     fn five(&mut self, named: &[u8], values: &[u8], word: &[u8]) -> Answer {
         let (named, values) = (number(named)?, number(values)?);
-        let (line, stuck) = fault(word)?;
-        let outcome = calls::five(&self.image, named, values, line, stuck, &mut self.good);
+        let outcome = calls::five(&self.image, named, values, fault(word)?, &mut self.good);
         said(outcome, |count| format!("drives {count}"))
     }
 }

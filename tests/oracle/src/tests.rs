@@ -2,6 +2,7 @@
 
 mod console;
 mod exhaustion;
+mod pins;
 mod refusals;
 mod sheet;
 

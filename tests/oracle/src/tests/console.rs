@@ -9,7 +9,7 @@ const MALFORMED: &[&str] = &[
     "", " ", "nothing", "Check", "check ", " check", "check 1", "check\r", "check\t", "image x", "help me", "load",
     "load ", "load  -", "load 0", "load 0g", "load 0x00", "load --", "load - -", "load 00 00", "load\t-", "rows",
     "rows 0", "rows 0 0", "rows 0  0/0", "rows 0 0/0 0", "rows 0 /0", "rows 0 0/", "rows 0 0/0/0", "rows -1 0/0",
-    "rows +1 0/0", "rows 0x1 0/0", "rows 1. 0/0", "rows 0 0.0/0", "rows 0 +0/0", "rows 0 0/-1",
+    "rows +1 0/0", "rows 0x1 0/0", "rows 1. 0/0", "rows 0 0.0/", "rows 0 +0/0", "rows 0 0/-1",
     "rows 18446744073709551616 0/0", "find 0/18446744073709551616", "find 99999999999999999999/0", "find 0/0\r",
     "judge 0", "judge 0 0", "find", "find 0", "book 6", "alter 1", "alter 1 -", "alter 1 020100000000000000",
     "alter 1 0201000000000000000000", "alter 1 0201000000000000000g", "refresh 0", "refresh 0 x", "five 0 0",
@@ -18,6 +18,12 @@ const MALFORMED: &[&str] = &[
     "lend rows", "lend rows 1", "lend rows 1 8193", "lend rows 8193 1", "lend rows 1 1 1", "lend book",
     "lend book 16385", "lend book x", "lend good 1", "put", "put good", "put good 0", "put good 0G", "put bad 00",
     "put entry 0", "put entry 6 1", "put entry 0 4294967296", "put entry 0 -1", "put entry 99999999999 1",
+    "find 2.", "find .0/1", "find 2./1", "find 2.0", "find 2.0/", "find 2.0.1/1", "find 2..0/1", "find 2/0.1",
+    "find 2.-1/1", "find 2.+0/1", "find 2.18446744073709551616/1", "find 18446744073709551616.0/1",
+    "find 2.0/18446744073709551616", "find 2.0/0.1", "find 2/.0/1", "find 2 .0/1", "rows 0 2./1", "judge 0 .0/1",
+    "five 0 0 2.0.0/1", "pin", "pins", "pin 0", "pin book 24", "pin entries 0", "Pin book", "pin  book", "pinbook",
+    "pin book ", "lend pins", "lend pins x", "lend pins 65537", "lend pins 1 1", "lend pin 1", "put pin", "put pin 0",
+    "put pin 24 1", "put pin 0 4294967296", "put pin 0 -1", "put pins 0 1", "put pin 18446744073709551615 1",
 ];
 
 // Gives the HEX word of some bytes, lower case.
@@ -58,16 +64,20 @@ fn before_load() {
         ("image", "image -"),
         ("check", "refused 1"),
         ("entries", "entries"),
+        ("pin entries", "pins"),
         ("show good 0", "row -"),
         ("show faulty 5", "row -"),
         ("rows 0 0/0", "refused 1"),
         ("judge 0 0/0", "refused 1"),
         ("find 0/0", "refused 1"),
+        ("find 0.0/0", "refused 1"),
         ("book", "refused 1"),
+        ("pin book", "refused 1"),
         ("alter 0 00000000000000000000", "refused 1"),
         ("refresh 0 0", "refused 1"),
         ("five 0 0 0/0", "refused 1"),
         ("put entry 0 1", "?"),
+        ("put pin 0 1", "?"),
     ];
     check_all(&mut Console::default(), &script);
 }
@@ -95,7 +105,7 @@ fn board_t_through_every_call() {
         ("find 1/1", "none"),
         ("book", "found 2 of 6"),
         ("entries", "entries 4294967295 4294967295 0 4294967295 0 4294967295"),
-        ("alter 2 03020000010000000000", "found 2 of 6"),
+        ("alter 2 03020000010000000000", "found 5 of 30"),
         ("entries", "entries 4294967295 4294967295 4294967295 1 4294967295 0"),
         ("five 0 0 2/1", "drives 0"),
         ("show good 0", "row 020202"),
@@ -106,6 +116,69 @@ fn board_t_through_every_call() {
         ("show good 0", "row 010101"),
     ];
     check_all(&mut Console::default(), &script);
+}
+
+// Board T's pins through every call that takes a fault, and both books through an alteration.
+#[test]
+fn pins_through_every_call() {
+    let load = format!("load {}", hex(&board_t()));
+    let lent = format!("pins{}", " 99".repeat(24));
+    let none = |count: usize| " 4294967295".repeat(count);
+    let filled = format!("pins{} 0{} 1{} 0{}", none(9), none(6), none(1), none(5));
+    let altered = format!("pins{} 1{} 0{} 1{}", none(8), none(8), none(1), none(4));
+    let script = [
+        (load.as_str(), "board 3 lines 1 inputs 1 outputs"),
+        ("pin entries", &lent[..]),
+        ("rows 1 2.0/0", "filled"),
+        ("show good 0", "row 010001"),
+        ("show faulty 0", "row 010000"),
+        ("judge 1 2.0/0", "yes"),
+        ("judge 0 2.00/0", "no"),
+        ("find 2.0/0", "1"),
+        ("find 2.0/1", "none"),
+        ("find 2.1/0", "0"),
+        ("find 1.0/1", "0"),
+        ("five 1 1 2.0/0", "drives 1"),
+        ("show good 0", "row 010003"),
+        ("five 0 0 2.0/0", "drives 0"),
+        ("show good 0", "row 020202"),
+        ("pin book", "found 3 of 24"),
+        ("pin entries", &filled[..]),
+        ("entries", "entries 99 99 99 99 99 99"),
+        ("alter 2 03020000010000000000", "found 5 of 30"),
+        ("pin entries", &altered[..]),
+        ("entries", "entries 4294967295 4294967295 4294967295 1 4294967295 0"),
+    ];
+    check_all(&mut Console::default(), &script);
+}
+
+// The console's answers where a pin is not there, or a book is not of the right length.
+#[test]
+fn pin_refusals() {
+    let script = [
+        ("rows 9 2.2/0", "refused 12"),
+        ("rows 9 2.1000000000000000000/0", "refused 12"),
+        ("judge 9 0.0/0", "refused 12"),
+        ("find 2.18446744073709551615/1", "refused 12"),
+        ("find 2.4294967296/1", "refused 12"),
+        ("find 2.2/2", "refused 7"),
+        ("find 2.0/300", "refused 7"),
+        ("find 3.0/0", "refused 6"),
+        ("five 0 1 1.1/0", "refused 12"),
+        ("lend book 24", "lent"),
+        ("lend pins 6", "lent"),
+        ("pin book", "refused 9"),
+        ("pin entries", "pins 99 99 99 99 99 99"),
+        ("alter 0 02010000000000000000", "refused 9"),
+        ("lend book 6", "lent"),
+        ("alter 2 03020000010000000000", "refused 9"),
+        ("entries", "entries 99 99 99 99 99 99"),
+        ("pin entries", "pins 99 99 99 99 99 99"),
+        ("put pin 5 4294967295", "lent"),
+        ("pin entries", "pins 99 99 99 99 99 4294967295"),
+        ("entries", "entries 99 99 99 99 99 99"),
+    ];
+    check_all(&mut loaded(&board_t()), &script);
 }
 
 // Refusals reach the console; numbers as large as 64 bits reach the call.
@@ -154,6 +227,7 @@ fn refused_image() {
         ("image", &image[..]),
         ("show good 0", "row -"),
         ("entries", "entries"),
+        ("pin entries", "pins"),
         ("check", "refused 4 at 2.3"),
         ("book", "refused 4 at 2.3"),
         ("lend book 2", "lent"),
@@ -169,9 +243,11 @@ fn refused_image() {
 fn malformed() {
     let mut console = loaded(&board_t());
     let image = format!("image {}", hex(&board_t()));
+    let pins = format!("pins{}", " 99".repeat(24));
     for line in MALFORMED {
         check_all(&mut console, &[(line, "?"), ("image", &image), ("show good 0", "row 090909")]);
         check_all(&mut console, &[("show faulty 0", "row 090909"), ("entries", "entries 99 99 99 99 99 99")]);
+        check_all(&mut console, &[("pin entries", &pins)]);
     }
     assert!(console.answer(b"find \xFF/0").starts_with("? "));
 }
@@ -191,6 +267,9 @@ fn limits() {
         ("put entry 16383 4294967295", "lent"),
         ("put entry 16384 0", "?"),
         ("put entry 0000 007", "lent"),
+        ("lend pins 65536", "lent"),
+        ("put pin 65535 4294967295", "lent"),
+        ("put pin 65536 0", "?"),
         (put.as_str(), "lent"),
         (put_more.as_str(), "?"),
         ("show faulty 8191", "row 09"),

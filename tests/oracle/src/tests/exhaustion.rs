@@ -3,7 +3,7 @@
 use super::*;
 use crate::board::{self, Fault, D, D_BAR, X};
 use crate::calls;
-use crate::image::{decode, Board};
+use crate::image::{decode, Board, Record};
 
 /// A small source of numbers that look random.
 struct Numbers(u64);
@@ -36,6 +36,17 @@ impl Numbers {
             outputs.push(records.len() as u16 - 1);
         }
         image(self.below(20) as usize, &records, &outputs)
+    }
+
+    // Gives a fault of either sort that the board can have; an input has none of a pin.
+    fn fault(&mut self, board: &Board) -> Fault {
+        let line = self.below(board.lines() as u64);
+        let stuck = self.below(2) as u8;
+        let pins = u64::from(board.records[line as usize].count);
+        if pins == 0 || self.below(3) == 0 {
+            return Fault::on_line(line, stuck);
+        }
+        Fault::on_pin(line, self.below(pins), stuck)
     }
 }
 
@@ -128,33 +139,44 @@ fn plain_find(board: &Board, fault: Fault) -> Option<u64> {
     (0..board.patterns()).find(|&pattern| board::shows(board, pattern, fault))
 }
 
+// Gives all faults that a board can have, of both sorts.
+fn all_faults(board: &Board) -> Vec<Fault> {
+    let mut faults = Vec::new();
+    for (line, record) in (0..).zip(&board.records) {
+        for stuck in 0..=1 {
+            faults.push(Fault::on_line(line, stuck));
+            faults.extend((0..u64::from(record.count)).map(|pin| Fault::on_pin(line, pin, stuck)));
+        }
+    }
+    faults
+}
+
 // Find agrees with judging one pattern at a time, on boards of less and more than 64 patterns.
 #[test]
 fn find_agrees() {
     let mut numbers = Numbers(0x1234_5678_9ABC_DEF1);
     for _ in 0..150 {
         let board = decode(&numbers.image(9, 30)).unwrap();
-        for line in 0..board.lines() {
-            for stuck in 0..=1 {
-                let fault = Fault { line, stuck };
-                assert_eq!(board::find(&board, fault), plain_find(&board, fault));
-            }
+        for fault in all_faults(&board) {
+            assert_eq!(board::find(&board, fault), plain_find(&board, fault), "{fault:?}");
         }
     }
 }
 
 // Gives a line's value by asking its pins' lines, a way that shares nothing with `run`.
 fn asked(board: &Board, pattern: u64, fault: Option<Fault>, line: usize) -> u8 {
-    if let Some(fault) = fault {
-        if fault.line == line {
-            return fault.stuck;
-        }
+    let held = fault.filter(|fault| fault.line == line as u64);
+    if let Some(Fault { pin: None, stuck, .. }) = held {
+        return stuck;
     }
     let record = &board.records[line];
     if record.kind == 0 {
         return (pattern >> line & 1) as u8;
     }
-    let pins: Vec<u8> = record.used().iter().map(|&pin| asked(board, pattern, fault, pin as usize)).collect();
+    let mut pins: Vec<u8> = record.used().iter().map(|&pin| asked(board, pattern, fault, pin as usize)).collect();
+    if let Some(Fault { pin: Some(pin), stuck, .. }) = held {
+        pins[pin as usize] = stuck;
+    }
     table(record.kind, &pins)
 }
 
@@ -166,15 +188,15 @@ fn rows_agree() {
         let image = numbers.image(5, 12);
         let board = decode(&image).unwrap();
         let pattern = numbers.below(board.patterns());
-        let fault = Fault { line: numbers.below(board.lines() as u64) as usize, stuck: numbers.below(2) as u8 };
+        let fault = numbers.fault(&board);
         let (mut good, mut faulty) = (vec![9; board.lines()], vec![9; board.lines()]);
-        calls::rows(&image, pattern, fault.line as u64, fault.stuck, &mut good, &mut faulty).unwrap();
+        calls::rows(&image, pattern, fault, &mut good, &mut faulty).unwrap();
         for line in 0..board.lines() {
             assert_eq!(good[line], asked(&board, pattern, None, line));
             assert_eq!(faulty[line], asked(&board, pattern, Some(fault), line));
         }
         let differs = board.outputs.iter().any(|&output| good[output] != faulty[output]);
-        assert_eq!(calls::judge(&image, pattern, fault.line as u64, fault.stuck), Ok(differs));
+        assert_eq!(calls::judge(&image, pattern, fault), Ok(differs));
     }
 }
 
@@ -186,7 +208,7 @@ fn five_promise() {
         let board = decode(&numbers.image(5, 15)).unwrap();
         let named = if round % 3 == 0 { board.patterns() - 1 } else { numbers.below(board.patterns()) };
         let values = numbers.below(board.patterns()) & named;
-        let fault = Fault { line: numbers.below(board.lines() as u64) as usize, stuck: numbers.below(2) as u8 };
+        let fault = numbers.fault(&board);
         let row = board::five_row(&board, named, values, fault);
         for pattern in (0..board.patterns()).filter(|pattern| pattern & named == values) {
             let (mut good, mut faulty) = (vec![0; board.lines()], vec![0; board.lines()]);
@@ -212,7 +234,60 @@ fn common(board: &Board, line: usize, other: usize) -> bool {
     board.outputs.iter().any(|&output| feeds(board, line, output) && feeds(board, other, output))
 }
 
-// An alteration keeps a right book right, leaves untouched entries alone and counts all entries.
+// Gives both books of an image, and how many of their entries are not none.
+fn both_books(image: &[u8]) -> (Vec<u32>, Vec<u32>, usize) {
+    let lines = decode(image).unwrap().lines();
+    let (mut book, mut pins) = (vec![0; 2 * lines], vec![0; 8 * lines]);
+    let found = calls::book(image, &mut book).unwrap() + calls::pin_book(image, &mut pins).unwrap();
+    (book, pins, found)
+}
+
+// The pin book has Find's answer for each used pin, and none for each absent one.
+#[test]
+fn pin_book_agrees() {
+    let mut numbers = Numbers(0x2468_ACE0_1357_9BDF);
+    for _ in 0..100 {
+        let image = numbers.image(6, 12);
+        let board = decode(&image).unwrap();
+        let (_, pins, _) = both_books(&image);
+        for (place, &entry) in pins.iter().enumerate() {
+            let (line, pin, stuck) = (place / 8, place % 8 / 2, place % 2);
+            let wanted = match pin < board.records[line].used().len() {
+                true => plain_find(&board, Fault::on_pin(line as u64, pin as u64, stuck as u8)),
+                false => None,
+            };
+            assert_eq!(entry, wanted.map_or(calls::NONE, |pattern| pattern as u32));
+        }
+    }
+}
+
+// A pin's fault is the fault of a buffer put in front of that pin alone.
+#[test]
+fn pin_is_a_buffer() {
+    let mut numbers = Numbers(0x1111_2222_3333_4445);
+    for _ in 0..200 {
+        let board = decode(&numbers.image(5, 12)).unwrap();
+        let fault = numbers.fault(&board);
+        let Some(pin) = fault.pin else { continue };
+        let (line, mut other) = (fault.line as usize, board.clone());
+        let buffer = Record { kind: BUFFER, count: 1, pins: [board.records[line].pins[pin as usize], 0, 0, 0] };
+        let moved = |from: u16| if from as usize >= line { from + 1 } else { from };
+        for record in &mut other.records[line..] {
+            record.pins = record.pins.map(moved);
+        }
+        other.records[line].pins[pin as usize] = line as u16;
+        other.records.insert(line, buffer);
+        other.outputs = board.outputs.iter().map(|&output| moved(output as u16) as usize).collect();
+        assert_eq!(board::find(&board, fault), board::find(&other, Fault::on_line(line as u64, fault.stuck)));
+    }
+}
+
+// Gives a book in which each entry has a number of its own that no search gives.
+fn marked(length: usize) -> Vec<u32> {
+    (0..length as u32).map(|place| 1_000_000 + place).collect()
+}
+
+// An alteration keeps right books right, leaves untouched entries alone and counts all entries of both books.
 #[test]
 fn alterations() {
     let mut numbers = Numbers(0x7777_0000_1111_2222);
@@ -224,21 +299,20 @@ fn alterations() {
         }
         let line = before.inputs as u64 + numbers.below((before.lines() - before.inputs) as u64);
         let record = numbers.gate(line);
-        let mut right = vec![0; 2 * before.lines()];
-        let mut marked: Vec<u32> = (0..right.len() as u32).map(|place| 1_000_000 + place).collect();
-        calls::book(&image, &mut right).unwrap();
-        let count = calls::alter(&mut image.clone(), line, &record, &mut right).unwrap();
-        let marked_count = calls::alter(&mut image, line, &record, &mut marked).unwrap();
+        let (mut book, mut pins, _) = both_books(&image);
+        let (mut own_book, mut own_pins) = (marked(book.len()), marked(pins.len()));
+        let count = calls::alter(&mut image.clone(), line, &record, &mut book, &mut pins).unwrap();
+        let own_count = calls::alter(&mut image, line, &record, &mut own_book, &mut own_pins).unwrap();
         let after = decode(&image).unwrap();
-        let mut fresh = vec![0; right.len()];
-        assert_eq!(calls::book(&image, &mut fresh), Ok(count));
-        assert_eq!(right, fresh);
-        for place in 0..marked.len() {
-            let touched = common(&before, place / 2, line as usize) || common(&after, place / 2, line as usize);
-            let wanted = if touched { fresh[place] } else { 1_000_000 + place as u32 };
-            assert_eq!(marked[place], wanted);
+        assert_eq!(both_books(&image), (book.clone(), pins.clone(), count));
+        for (own, fresh, entries) in [(&own_book, book, 2), (&own_pins, pins, 8)] {
+            for place in 0..own.len() {
+                let other = place / entries;
+                let touched = common(&before, other, line as usize) || common(&after, other, line as usize);
+                assert_eq!(own[place], if touched { fresh[place] } else { 1_000_000 + place as u32 });
+            }
         }
-        assert_eq!(marked_count, marked.iter().filter(|&&entry| entry != calls::NONE).count());
+        assert_eq!(own_count, own_book.iter().chain(&own_pins).filter(|&&entry| entry != calls::NONE).count());
     }
 }
 

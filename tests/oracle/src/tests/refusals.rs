@@ -1,7 +1,7 @@
 //! Each refusal at its boundary, in the order tested, with the lent buffers kept.
 
 use super::*;
-use crate::board::{D, D_BAR, X};
+use crate::board::{Fault, D, D_BAR, X};
 use crate::calls::{self, NONE};
 use crate::image::Refusal;
 use crate::text::{book_text, read_image};
@@ -151,16 +151,19 @@ fn refusal_5() {
 fn image_first() {
     for mut image in [vec![], t_with(20, &[9]), t_with(30, &[3])] {
         let wanted = calls::check(&image).unwrap_err();
-        let (mut good, mut faulty, mut book) = ([9], [9], [99]);
-        assert_eq!(calls::rows(&image, 99, 99, 99, &mut good, &mut faulty), Err(wanted));
-        assert_eq!(calls::judge(&image, 99, 99, 99), Err(wanted));
-        assert_eq!(calls::find(&image, 99, 99), Err(wanted));
+        let (mut good, mut faulty, mut book, mut pins) = ([9], [9], [99], [99]);
+        for fault in [Fault::on_line(99, 99), Fault::on_pin(99, 99, 99)] {
+            assert_eq!(calls::rows(&image, 99, fault, &mut good, &mut faulty), Err(wanted));
+            assert_eq!(calls::judge(&image, 99, fault), Err(wanted));
+            assert_eq!(calls::find(&image, fault), Err(wanted));
+            assert_eq!(calls::five(&image, 99, 99, fault, &mut good), Err(wanted));
+        }
         assert_eq!(calls::book(&image, &mut book), Err(wanted));
+        assert_eq!(calls::pin_book(&image, &mut pins), Err(wanted));
         assert_eq!(calls::refresh(&image, 99, 99, &mut good), Err(wanted));
-        assert_eq!(calls::five(&image, 99, 99, 99, 99, &mut good), Err(wanted));
         let old = image.clone();
-        assert_eq!(calls::alter(&mut image, 99, &[0; 10], &mut book), Err(wanted));
-        assert_eq!((image, good, faulty, book), (old, [9], [9], [99]));
+        assert_eq!(calls::alter(&mut image, 99, &[0; 10], &mut book, &mut pins), Err(wanted));
+        assert_eq!((image, good, faulty, book, pins), (old, [9], [9], [99], [99]));
     }
 }
 
@@ -169,7 +172,7 @@ fn image_first() {
 fn rows_order() {
     let ask = |pattern, line, stuck, lengths: (usize, usize)| {
         let (mut good, mut faulty) = (vec![9; lengths.0], vec![9; lengths.1]);
-        let outcome = calls::rows(&board_t(), pattern, line, stuck, &mut good, &mut faulty);
+        let outcome = calls::rows(&board_t(), pattern, Fault::on_line(line, stuck), &mut good, &mut faulty);
         let kept = good.iter().chain(&faulty).all(|&byte| byte == 9);
         assert_eq!(outcome.is_err(), kept);
         outcome.map_err(|refusal| refusal.to_string())
@@ -188,14 +191,14 @@ fn rows_order() {
 // Judge: 6, 7, 8; Find: 6, 7.
 #[test]
 fn judge_and_find_order() {
-    assert_eq!(calls::judge(&board_t(), 2, 3, 2), Err(Refusal::Plain(6)));
-    assert_eq!(calls::judge(&board_t(), 2, 2, 2), Err(Refusal::Plain(7)));
-    assert_eq!(calls::judge(&board_t(), 2, 2, 1), Err(Refusal::Plain(8)));
-    assert_eq!(calls::find(&board_t(), 3, 2), Err(Refusal::Plain(6)));
-    assert_eq!(calls::find(&board_t(), 2, 2), Err(Refusal::Plain(7)));
-    assert_eq!(calls::find(&board_t(), 2, 1), Ok(None));
-    assert_eq!(calls::judge(&wide(24), (1 << 24) - 1, 0, 0), Ok(true));
-    assert_eq!(calls::judge(&wide(24), 1 << 24, 0, 0), Err(Refusal::Plain(8)));
+    assert_eq!(calls::judge(&board_t(), 2, Fault::on_line(3, 2)), Err(Refusal::Plain(6)));
+    assert_eq!(calls::judge(&board_t(), 2, Fault::on_line(2, 2)), Err(Refusal::Plain(7)));
+    assert_eq!(calls::judge(&board_t(), 2, Fault::on_line(2, 1)), Err(Refusal::Plain(8)));
+    assert_eq!(calls::find(&board_t(), Fault::on_line(3, 2)), Err(Refusal::Plain(6)));
+    assert_eq!(calls::find(&board_t(), Fault::on_line(2, 2)), Err(Refusal::Plain(7)));
+    assert_eq!(calls::find(&board_t(), Fault::on_line(2, 1)), Ok(None));
+    assert_eq!(calls::judge(&wide(24), (1 << 24) - 1, Fault::on_line(0, 0)), Ok(true));
+    assert_eq!(calls::judge(&wide(24), 1 << 24, Fault::on_line(0, 0)), Err(Refusal::Plain(8)));
 }
 
 // Book: 9 for any other length, and then the book keeps its entries.
@@ -208,15 +211,20 @@ fn book_length() {
     }
 }
 
-// Gives Alter's outcome on board T with a book of this length; a refused call keeps image and book.
-fn alter_t(line: u64, bytes: [u8; 10], length: usize) -> Result<usize, String> {
+// Gives Alter's outcome on board T with books of these lengths; a refused call keeps image and books.
+fn alter_lent(line: u64, bytes: [u8; 10], lengths: (usize, usize)) -> Result<usize, String> {
     let mut image = board_t();
-    let mut book = vec![99; length];
-    let outcome = calls::alter(&mut image, line, &bytes, &mut book);
+    let (mut book, mut pins) = (vec![99; lengths.0], vec![99; lengths.1]);
+    let outcome = calls::alter(&mut image, line, &bytes, &mut book, &mut pins);
     if outcome.is_err() {
-        assert_eq!((image, book), (board_t(), vec![99; length]));
+        assert_eq!((image, book, pins), (board_t(), vec![99; lengths.0], vec![99; lengths.1]));
     }
     outcome.map_err(|refusal| refusal.to_string())
+}
+
+// Gives Alter's outcome on board T with a book of this length and a right pin book.
+fn alter_t(line: u64, bytes: [u8; 10], length: usize) -> Result<usize, String> {
+    alter_lent(line, bytes, (length, 24))
 }
 
 // Alter: 6, 9, 10 in that order; 10 for an input, for kind 0, and for a record bad there.
@@ -234,8 +242,8 @@ fn alter_order() {
     assert_eq!(alter_t(2, record(AND, &[0, 2]), 6).unwrap_err(), "refused 10");
     assert_eq!(alter_t(2, [3, 2, 0, 0, 0, 0, 0, 0, 0, 1], 6).unwrap_err(), "refused 10");
     assert_eq!(alter_t(2, [3, 5, 0, 0, 0, 0, 0, 0, 0, 0], 6).unwrap_err(), "refused 10");
-    assert_eq!(alter_t(2, record(AND, &[0, 0, 1, 1]), 6), Ok(2));
-    assert_eq!(alter_t(2, record(OR, &[0, 1]), 6), Ok(2));
+    assert_eq!(alter_t(2, record(AND, &[0, 0, 1, 1]), 6), Ok(2 + 1));
+    assert_eq!(alter_t(2, record(OR, &[0, 1]), 6), Ok(2 + 3));
 }
 
 // Touched: before or after, a common output; a line that reaches no output touches nothing.
@@ -243,13 +251,15 @@ fn alter_order() {
 fn touched_both_ways() {
     let (x, y) = (record(INPUT, &[]), record(INPUT, &[]));
     let mut image = image(3, &[x, y, record(BUFFER, &[0]), record(NOT, &[1])], &[2]);
-    let mut book = vec![99; 8];
-    assert_eq!(calls::alter(&mut image, 3, &record(BUFFER, &[0]), &mut book), Ok(8));
-    assert_eq!(book, [99; 8]);
-    assert_eq!(calls::alter(&mut image, 2, &record(BUFFER, &[1]), &mut book), Ok(6));
+    let (mut book, mut pins) = (vec![99; 8], vec![99; 32]);
+    assert_eq!(calls::alter(&mut image, 3, &record(BUFFER, &[0]), &mut book, &mut pins), Ok(8 + 32));
+    assert_eq!((&book[..], &pins[..]), (&[99; 8][..], &[99; 32][..]));
+    assert_eq!(calls::alter(&mut image, 2, &record(BUFFER, &[1]), &mut book, &mut pins), Ok(6 + 10));
     assert_eq!(book, [NONE, NONE, 2, 0, 2, 0, 99, 99]);
-    assert_eq!(calls::alter(&mut image, 2, &record(BUFFER, &[0]), &mut book), Ok(6));
+    assert_eq!(pins, [vec![NONE; 16], vec![2, 0], vec![NONE; 6], vec![99; 8]].concat());
+    assert_eq!(calls::alter(&mut image, 2, &record(BUFFER, &[0]), &mut book, &mut pins), Ok(6 + 10));
     assert_eq!(book, [1, 0, NONE, NONE, 1, 0, 99, 99]);
+    assert_eq!(pins, [vec![NONE; 16], vec![1, 0], vec![NONE; 6], vec![99; 8]].concat());
 }
 
 // Refresh: 6, 8, 9, 11 in that order.
@@ -278,7 +288,7 @@ fn refresh_order() {
 fn five_order() {
     let ask = |named, values, line, stuck, length: usize| {
         let mut row = vec![9; length];
-        let outcome = calls::five(&board_h(), named, values, line, stuck, &mut row);
+        let outcome = calls::five(&board_h(), named, values, Fault::on_line(line, stuck), &mut row);
         assert!(outcome.is_ok() || row.iter().all(|&byte| byte == 9));
         outcome.map(|count| (count, row)).map_err(|refusal| refusal.to_string())
     };

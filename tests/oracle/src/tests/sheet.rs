@@ -1,14 +1,14 @@
 //! The numbers of the bench sheet, starred and unstarred.
 
 use super::*;
-use crate::board::{gate, gate_five, D, D_BAR, X};
+use crate::board::{gate, gate_five, Fault, D, D_BAR, X};
 use crate::calls::{self, Counts, NONE};
 use crate::image::Refusal;
 use crate::text::book_text;
 
 // Gives the patterns that show a fault, by asking Judge about every pattern.
-fn showing(image: &[u8], patterns: u64, line: u64, stuck: u8) -> Vec<u64> {
-    (0..patterns).filter(|&pattern| calls::judge(image, pattern, line, stuck).unwrap()).collect()
+fn showing(image: &[u8], patterns: u64, fault: Fault) -> Vec<u64> {
+    (0..patterns).filter(|&pattern| calls::judge(image, pattern, fault).unwrap()).collect()
 }
 
 // Gives the book of an image and its count.
@@ -21,15 +21,24 @@ fn book(image: &[u8]) -> (Vec<u32>, usize) {
 // S, line 4 at 0: pattern 0, and no other pattern shows it.
 #[test]
 fn s_line_4_at_0() {
-    assert_eq!(calls::find(&board_s(), 4, 0), Ok(Some(0)));
-    assert_eq!(showing(&board_s(), 16, 4, 0), [0]);
+    assert_eq!(calls::find(&board_s(), Fault::on_line(4, 0)), Ok(Some(0)));
+    assert_eq!(showing(&board_s(), 16, Fault::on_line(4, 0)), [0]);
 }
 
 // S, line 4 at 1: pattern 6; the patterns that show it are 6, 7, 14.
 #[test]
 fn s_line_4_at_1() {
-    assert_eq!(calls::find(&board_s(), 4, 1), Ok(Some(6)));
-    assert_eq!(showing(&board_s(), 16, 4, 1), [6, 7, 14]);
+    assert_eq!(calls::find(&board_s(), Fault::on_line(4, 1)), Ok(Some(6)));
+    assert_eq!(showing(&board_s(), 16, Fault::on_line(4, 1)), [6, 7, 14]);
+}
+
+// S, pin 0 of line 4 at 1: line 4 is then 0, which pattern 0 alone shows; at 0 no pattern shows it.
+#[test]
+fn s_pin_0_of_line_4() {
+    assert_eq!(calls::find(&board_s(), Fault::on_pin(4, 0, 1)), Ok(Some(0)));
+    assert_eq!(showing(&board_s(), 16, Fault::on_pin(4, 0, 1)), [0]);
+    assert_eq!(calls::find(&board_s(), Fault::on_pin(4, 0, 0)), Ok(None));
+    assert!(book_text(&board_s()).contains("\n4.0/1 0\n"));
 }
 
 // Board T's book, and its counts.
@@ -42,8 +51,17 @@ fn t_book() {
 // Board T's book as text, whole.
 #[test]
 fn t_text() {
-    let text = "board 3 lines 1 inputs 1 outputs\n0/0 none\n0/1 none\n1/0 0\n1/1 none\n2/0 0\n2/1 none\nfound 2 of 6\n";
-    assert_eq!(book_text(&board_t()), text);
+    let lines =
+        "board 3 lines 1 inputs 1 outputs\n0/0 none\n0/1 none\n1/0 0\n1/1 none\n2/0 0\n2/1 none\nfound 2 of 6\n";
+    let pins = "1.0/0 none\n1.0/1 0\n2.0/0 1\n2.0/1 none\n2.1/0 0\n2.1/1 none\npins found 3 of 6\n";
+    assert_eq!(book_text(&board_t()), format!("{lines}{pins}"));
+}
+
+// A board of inputs has no pin line.
+#[test]
+fn text_of_inputs() {
+    let text = "board 1 lines 1 inputs 1 outputs\n0/0 1\n0/1 0\nfound 2 of 2\npins found 0 of 0\n";
+    assert_eq!(book_text(&image(0, &[record(INPUT, &[])], &[0])), text);
 }
 
 // T with line 2 altered to and(0,1).
@@ -51,7 +69,8 @@ fn t_text() {
 fn t_altered() {
     let mut image = board_t();
     let (mut entries, _) = book(&image);
-    assert_eq!(calls::alter(&mut image, 2, &record(AND, &[0, 1]), &mut entries), Ok(2));
+    let mut pins = [99; 24];
+    assert_eq!(calls::alter(&mut image, 2, &record(AND, &[0, 1]), &mut entries, &mut pins), Ok(2 + 3));
     assert_eq!(entries, [NONE, NONE, NONE, 1, NONE, 0]);
     let mut wanted = board_t();
     wanted[20..30].copy_from_slice(&record(AND, &[0, 1]));
@@ -72,7 +91,8 @@ fn h_altered() {
         let (mut entries, _) = book(&image);
         entries[0] = before;
         let found = if before == NONE { 7 } else { 8 };
-        assert_eq!(calls::alter(&mut image, 3, &record(NOT, &[1]), &mut entries), Ok(found));
+        let mut pins = [99; 32];
+        assert_eq!(calls::alter(&mut image, 3, &record(NOT, &[1]), &mut entries, &mut pins), Ok(found + 18));
         assert_eq!(entries, [after, 0, 2, 0, 0, 1, 0, 2]);
     }
 }
@@ -87,11 +107,11 @@ fn exclusive_or() {
     records.push(record(XOR, &[0, 1, 2]));
     let image = image(0, &records, &[3]);
     let mut row = [9; 4];
-    assert_eq!(calls::five(&image, 7, 7, 3, 1, &mut row), Ok(1));
+    assert_eq!(calls::five(&image, 7, 7, Fault::on_line(3, 1), &mut row), Ok(1));
     assert_eq!(row, [1, 1, 1, D_BAR]);
-    assert_eq!(calls::five(&image, 3, 3, 3, 0, &mut row), Ok(0));
+    assert_eq!(calls::five(&image, 3, 3, Fault::on_line(3, 0), &mut row), Ok(0));
     assert_eq!(row, [1, 1, X, 0]);
-    assert_eq!(calls::judge(&image, 7, 3, 0), Ok(false));
+    assert_eq!(calls::judge(&image, 7, Fault::on_line(3, 0)), Ok(false));
 }
 
 // And of D, D-bar is 0; and of D, x is x; exclusive-or of one x line with itself is x.
@@ -131,9 +151,9 @@ fn note_limit() {
 // On T, pattern 1 accepted, 2 refused 8.
 #[test]
 fn pattern_limit() {
-    assert_eq!(calls::judge(&board_t(), 1, 2, 0), Ok(true));
-    assert_eq!(calls::judge(&board_t(), 1, 1, 1), Ok(false));
-    assert_eq!(calls::judge(&board_t(), 2, 2, 0), Err(Refusal::Plain(8)));
+    assert_eq!(calls::judge(&board_t(), 1, Fault::on_line(2, 0)), Ok(true));
+    assert_eq!(calls::judge(&board_t(), 1, Fault::on_line(1, 1)), Ok(false));
+    assert_eq!(calls::judge(&board_t(), 2, Fault::on_line(2, 0)), Err(Refusal::Plain(8)));
 }
 
 // The longest good image has 5,516 bytes: all limits at once.
