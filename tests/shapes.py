@@ -249,7 +249,7 @@ def bad_distance(rng, board):
     if way == 2:
         return rng.randbytes(257) + image[-right:]
     if way == 3:
-        return rng.choice((b"", b"\0" * 300)) + image[-12:]
+        return bytes(rng.choice((0, right - 13, right + 245))) + image[-12:]
     return with_counts(board, lines=board.lines % 512 + 1, distance=right)
 
 
