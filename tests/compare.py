@@ -26,8 +26,10 @@ FAILURES = ROOT / "target/compare"
 # commands in one run of a program, how often each answer must arise at least, and from how many commands on that is asked
 SCRIPT, ENOUGH, ENOUGH_FROM = 5_000, 20, 20_000
 TIMEOUT = 900
-PAIRED = (b"lend", b"put", b"show")
-COMMANDS = "load open save image lend put check rows judge find book alter refresh five show entries help".split()
+PAIRED = (b"lend", b"put", b"show", b"pin")
+COMMANDS = "load open save image lend put check rows judge find book alter refresh five show entries pin help".split()
+# commands whose last word is a fault; one on a pin has its own rows in the table
+WITH_FAULT = (b"rows", b"judge", b"find", b"five")
 IMAGE = [str(n) for n in range(1, 6)]
 # what each command can answer: forms of an accepted answer, then the refusals of its call, then '?'
 CAN_ANSWER = {
@@ -37,34 +39,47 @@ CAN_ANSWER = {
     "image": ["image", "image -", "?"],
     "lend rows": ["lent", "?"],
     "lend book": ["lent", "?"],
+    "lend pins": ["lent", "?"],
     "put good": ["lent", "?"],
     "put faulty": ["lent", "?"],
     "put entry": ["lent", "?"],
+    "put pin": ["lent", "?"],
     "check": ["board", *IMAGE, "?"],
     "rows": ["filled", *IMAGE, "6", "7", "8", "9", "?"],
+    "rows pin": ["filled", *IMAGE, "6", "7", "12", "8", "9", "?"],
     "judge": ["yes", "no", *IMAGE, "6", "7", "8", "?"],
+    "judge pin": ["yes", "no", *IMAGE, "6", "7", "12", "8", "?"],
     "find": ["pattern", "none", *IMAGE, "6", "7", "?"],
+    "find pin": ["pattern", "none", *IMAGE, "6", "7", "12", "?"],
     "book": ["found", *IMAGE, "9", "?"],
+    "pin book": ["found", *IMAGE, "9", "?"],
     "alter": ["found", *IMAGE, "6", "9", "10", "?"],
     "refresh": ["filled", *IMAGE, "6", "8", "9", "11", "?"],
     "five": ["drives", "drives 0", *IMAGE, "6", "7", "8", "9", "?"],
+    "five pin": ["drives", "drives 0", *IMAGE, "6", "7", "12", "8", "9", "?"],
     "show good": ["row", "row -", "?"],
     "show faulty": ["row", "row -", "?"],
     "entries": ["entries", "?"],
+    "pin entries": ["pins", "?"],
     "help": ["help", "?"],
     "no command": ["?", "? line too long"],
     "a bad record": [f"field {n}" for n in range(6)],
+    "alter's 9": ["line book", "pin book", "both books"],
 }
+# rows of the table that say more of an answer that another row has counted
+CLOSER = ("a bad record", "alter's 9")
 FIXED = (b"? line too long", b"? cannot read")
 
 
 def command_name(command, answer):
-    """The command's name in the table; the first two words where the second belongs to it."""
+    """The command's name in the table: with a second word where that belongs to it, or where its fault is on a pin."""
     if answer == b"? line too long":
         return "no command"
     words = command[:40].split(b" ")
+    if words[0] in WITH_FAULT and b"." in command.rsplit(b" ", 1)[-1]:
+        return words[0].decode() + " pin"
     name = b" ".join(words[:2] if words[0] in PAIRED else words[:1]).decode("latin-1")
-    return name if name in CAN_ANSWER and name != "a bad record" else "no command"
+    return name if name in CAN_ANSWER and name not in CLOSER else "no command"
 
 
 def form(command, answer):
@@ -168,25 +183,48 @@ def held_against(seed, number, commands, product, oracle, timeout=TIMEOUT):
     return len(script.parts) - sum(k is not None for _, k in differences), failures, counted(script.commands, expected)
 
 
+def lent_after(lent, command, answer):
+    """The line count and the lengths of both lent books after a command, from those before it."""
+    lines, book, pins = lent
+    words = answer[:40].split(b" ")
+    if command.startswith((b"load ", b"open ")) and words[0] in (b"board", b"refused"):
+        lines = int(words[1]) if words[0] == b"board" else 0
+        return lines, 2 * lines, 8 * lines
+    if answer == b"lent" and command.startswith(b"lend book "):
+        book = int(command[10:])
+    if answer == b"lent" and command.startswith(b"lend pins "):
+        pins = int(command[10:])
+    return lines, book, pins
+
+
+def wrong_books(lines, book, pins):
+    """Which of the lent books has the wrong length, where one has."""
+    return "both books" if book != 2 * lines and pins != 8 * lines else "line book" if book != 2 * lines else "pin book"
+
+
 def counted(commands, answered):
     """How often each form of answer of each command arose."""
-    counts = collections.Counter()
+    counts, lent = collections.Counter(), (0, 0, 0)
     for command, answer in zip(commands, answered):
-        counts[command_name(command, answer), form(command, answer)] += 1
+        name = command_name(command, answer)
+        counts[name, form(command, answer)] += 1
+        lent = lent_after(lent, command, answer)
         if answer.startswith(b"refused 4 at "):
             counts["a bad record", "field " + answer.decode().rsplit(".", 1)[1]] += 1
+        if (name, answer) == ("alter", b"refused 9"):
+            counts["alter's 9", wrong_books(*lent)] += 1
     return counts
 
 
 def table(counts):
     """The table of counts: accepted answers by form, each refusal, and '?'."""
-    numbers = [str(n) for n in range(1, 12)]
+    numbers = [str(n) for n in range(1, 13)]
     rows = [["command", *numbers, "?", "accepted"]]
     for name in CAN_ANSWER:
         forms = {f: n for (c, f), n in sorted(counts.items()) if c == name}
         accepted = "  ".join(f"{f}: {n}" for f, n in forms.items() if f not in numbers and f != "?")
         rows.append([name, *(str(forms.get(f, "")) for f in [*numbers, "?"]), accepted])
-    return "\n".join(f"{r[0]:<13}" + "".join(f"{cell:>6}" for cell in r[1:13]) + "   " + r[13] for r in rows)
+    return "\n".join(f"{r[0]:<13}" + "".join(f"{cell:>6}" for cell in r[1:-1]) + "   " + r[-1] for r in rows)
 
 
 def too_few(counts):
@@ -269,7 +307,7 @@ def main():
     failures += [(f"FAILED: arose fewer than {ENOUGH} times: {', '.join(seldom)}", b"")] if seldom else []
     print(table(counts))
     tell(failures)
-    print(f"seed {asked.seed}, {sum(n for (c, _), n in counts.items() if c != 'a bad record')} commands")
+    print(f"seed {asked.seed}, {sum(n for (c, _), n in counts.items() if c not in CLOSER)} commands")
     print(f"{passed + endings + at_once + (not seldom)} passed, {len(failures)} failed")
     sys.exit(1 if failures else 0)
 

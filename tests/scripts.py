@@ -13,7 +13,7 @@ from shapes import make
 TOP = 2**64 - 1
 # the credit in gate values that each command earns for searches, so that a script's time grows with its length alone
 CREDIT = 15_000
-LOOKS = (b"image", b"entries", b"show good 0", b"show faulty 0")
+LOOKS = (b"image", b"entries", b"pin entries", b"show good 0", b"show faulty 0")
 
 
 class Script:
@@ -39,9 +39,10 @@ class Script:
         text, case = value.hex() or "-", self.rng.random()
         return (text if case < 0.6 else text.upper() if case < 0.9 else text.upper().replace("A", "a").replace("C", "c")).encode()
 
-    def fault(self, line, stuck):
-        """The word of a fault."""
-        return (self.word(line) + b"/" + self.word(stuck)).decode()
+    def fault(self, line, stuck, pin=None):
+        """The word of a fault: of a line, or of one of its pins."""
+        place = self.word(line) if pin is None else self.word(line) + b"." + self.word(pin)
+        return (place + b"/" + self.word(stuck)).decode()
 
     def afford(self, cost):
         """Whether a search of this cost may be asked for now; it is then paid."""
@@ -51,7 +52,7 @@ class Script:
         return True
 
     def load(self, board):
-        """Loads a board; rows and a book of the right length are then lent."""
+        """Loads a board; rows and both books of the right length are then lent."""
         self.board = board
         self.say("load", board.image())
 
@@ -66,19 +67,19 @@ class Script:
 
     # the calls, each with a look at what was lent
 
-    def rows(self, pattern, line, stuck):
+    def rows(self, pattern, line, stuck, pin=None):
         """Rows, and both rows after it."""
-        self.say("rows", pattern, self.fault(line, stuck))
+        self.say("rows", pattern, self.fault(line, stuck, pin))
         self.look_rows()
 
-    def judge(self, pattern, line, stuck):
+    def judge(self, pattern, line, stuck, pin=None):
         """Judge, which lends nothing."""
-        self.say("judge", pattern, self.fault(line, stuck))
+        self.say("judge", pattern, self.fault(line, stuck, pin))
 
-    def find(self, line, stuck):
+    def find(self, line, stuck, pin=None):
         """Find, where its time is at hand."""
         if self.afford(self.board.cost()):
-            self.say("find", self.fault(line, stuck))
+            self.say("find", self.fault(line, stuck, pin))
 
     def book(self):
         """Book and the entries after it, where its time is at hand."""
@@ -86,20 +87,29 @@ class Script:
             self.say("book")
             self.look("entries")
 
+    def pin_book(self):
+        """The pin book's filling and its entries after it, where its time is at hand; an absent pin takes none."""
+        if self.afford(self.board.cost(2 * self.board.used_pins())):
+            self.say("pin book")
+            self.look("pin entries")
+
     def alter(self, line, record):
-        """Alter, then entries and image, where its time is at hand."""
-        if self.afford(self.board.cost(2 * self.board.lines)):
+        """Alter, then both books and the image, where its time is at hand; gives whether it was."""
+        most_pins = self.board.used_pins() + 4
+        affordable = self.afford(self.board.cost(2 * self.board.lines + 2 * most_pins))
+        if affordable:
             self.say("alter", line, record)
-            self.look("entries", "image")
+            self.look("entries", "pin entries", "image")
+        return affordable
 
     def refresh(self, line, pattern):
         """Refresh, and the good row after it."""
         self.say("refresh", line, pattern)
         self.look("show good 0")
 
-    def five(self, named, values, line, stuck):
+    def five(self, named, values, line, stuck, pin=None):
         """Five values, and the good row after it."""
-        self.say("five", named, values, self.fault(line, stuck))
+        self.say("five", named, values, self.fault(line, stuck, pin))
         self.look("show good 0")
 
     # arguments, good and bad
@@ -111,6 +121,23 @@ class Script:
     def gate(self):
         """A gate's line, or an input's where there is no gate."""
         return self.rng.randrange(min(self.board.inputs, self.board.lines - 1), self.board.lines)
+
+    def pins(self, line):
+        """How many pins a line has: none for an input or a line that is not there."""
+        return len(self.board.records[line][1]) if line < self.board.lines else 0
+
+    def pin(self, line):
+        """A used pin of a line; nothing for an input, which has none."""
+        return self.rng.randrange(self.pins(line)) if self.pins(line) else None
+
+    def pin_fault(self):
+        """A fault of a used pin as line, stuck value and pin; of a line where there is no gate."""
+        line = self.gate()
+        return line, self.stuck(), self.pin(line)
+
+    def any_fault(self):
+        """A fault of either sort, as line, stuck value and pin."""
+        return self.rng.choice(((self.line(), self.stuck(), None), self.pin_fault()))
 
     def pattern(self):
         """A pattern of the board's inputs."""
@@ -129,6 +156,11 @@ class Script:
     def bad_stuck(self):
         """A stuck value over 1; some would be good were they cut to 8 or 32 bits."""
         return self.rng.choice((2, 2, 3, 9, 254, 255, 256, 257, 300, 2**32, 2**32 + 1, 2**63, TOP))
+
+    def bad_pin(self, line):
+        """A pin that the line does not have; some would be good were they cut to 8, 16 or 32 bits."""
+        count = self.pins(line)
+        return self.rng.choice((count, count, count, count + 1, 4, 5, 255, 256, 65536, 2**32, 2**32 + 1, 2**63, 10**18, TOP))
 
     def bad_pattern(self):
         """A pattern with a bit at or above the input count."""
@@ -149,15 +181,28 @@ class Script:
                                 (named, unnamed | named), (0, TOP), (TOP, 0), (TOP, TOP), (0, 1)))
 
     def mixed_arguments(self, bad):
-        """Line, stuck value, pattern and partial pattern, each bad with this chance."""
+        """A fault (of a pin as often as of a line), pattern and partial pattern, each part of them bad with this chance."""
         chance = lambda good, poor: poor() if self.rng.random() < bad else good()
-        return (chance(self.line, self.bad_line), chance(self.stuck, self.bad_stuck),
-                chance(self.pattern, self.bad_pattern), chance(self.partial, self.bad_partial))
+        line, stuck = chance(self.rng.choice((self.line, self.gate)), self.bad_line), chance(self.stuck, self.bad_stuck)
+        pin = chance(lambda: self.rng.randrange(self.pins(line) or 4), lambda: self.bad_pin(line))
+        return ((line, stuck, self.rng.choice((None, pin))), chance(self.pattern, self.bad_pattern),
+                chance(self.partial, self.bad_partial))
+
+    def lend_books(self):
+        """Lends books of lengths near the right ones, at times each of the length that is right for the other."""
+        book, pins = 2 * self.board.lines, 8 * self.board.lines
+        way = self.rng.random()
+        if way < 0.2:
+            book, pins = pins, book
+        if way < 0.6:
+            self.say("lend book", length_near(self.rng, book) if way > 0.2 else book)
+        if way < 0.2 or way > 0.4:
+            self.say("lend pins", length_near(self.rng, pins) if way > 0.2 else pins)
 
 
 def length_near(rng, right):
-    """A length for a lent buffer: often right, else one off, nothing, or far off."""
-    return rng.choice((right, right, right, right + 1, max(right - 1, 0), 0, 2 * right, right // 2, right + 256))
+    """A length for a lent buffer: often right, else one off, nothing, 7, or far off."""
+    return rng.choice((right, right, right, right + 1, max(right - 1, 0), 0, 7, 2 * right, right // 2, right + 256))
 
 
 def a_record(s, line):
@@ -176,22 +221,10 @@ def a_record(s, line):
 
 def any_call(s, bad):
     """One call, with arguments that are bad with this chance."""
-    line, stuck, pattern, (named, values) = s.mixed_arguments(bad)
-    which = s.rng.randrange(7)
-    if which == 0:
-        s.rows(pattern, line, stuck)
-    elif which == 1:
-        s.judge(pattern, line, stuck)
-    elif which == 2:
-        s.find(line, stuck)
-    elif which == 3:
-        s.book()
-    elif which == 4:
-        s.alter(line, a_record(s, line))
-    elif which == 5:
-        s.refresh(line, pattern)
-    else:
-        s.five(named, values, line, stuck)
+    fault, pattern, partial = s.mixed_arguments(bad)
+    line = fault[0]
+    s.rng.choice((lambda: s.rows(pattern, *fault), lambda: s.judge(pattern, *fault), lambda: s.find(*fault), s.book, s.pin_book,
+                  lambda: s.alter(line, a_record(s, line)), lambda: s.refresh(line, pattern), lambda: s.five(*partial, *fault)))()
 
 
 # the parts
@@ -199,24 +232,26 @@ def any_call(s, bad):
 def before_load(s):
     """Commands before the first load: a script's first part."""
     s.board = shapes.sheet(s.rng)
-    for command in ("image", "check", "entries", "show good 0", "show faulty 5", "book", "find 0/0", "rows 0 0/0", "judge 0 0/0",
-                    "refresh 0 0", "five 0 0 0/0", "alter 0 02010000000000000000", "put entry 0 1", "help"):
+    for command in ("image", "check", "entries", "pin entries", "show good 0", "show faulty 5", "book", "pin book", "find 0/0",
+                    "find 0.0/0", "rows 0 0/0", "judge 0 0.0/0", "refresh 0 0", "five 0 0 0/0", "alter 0 02010000000000000000",
+                    "put entry 0 1", "put pin 0 1", "help"):
         if s.rng.random() < 0.8:
             s.say(command)
             s.look(s.rng.choice(LOOKS).decode())
 
 
 def exhaustive(s):
-    """A small board whole: the book, each fault's find, and all patterns for some faults."""
+    """A small board whole: both books, the find of many faults, and all patterns for one."""
     s.load(s.rng.choice((shapes.small, shapes.small, shapes.late))(s.rng))
     s.book()
-    for line in range(s.board.lines):
-        s.find(line, 0)
-        s.find(line, 1)
-    line, stuck = s.line(), s.stuck()
+    s.pin_book()
+    faults = s.board.faults()
+    for fault in s.rng.sample(faults, min(len(faults), 32)):
+        s.find(*fault)
+    fault = s.any_fault()
     for pattern in range(min(16, 1 << s.board.inputs)):
-        s.judge(pattern, line, stuck)
-    s.rows(s.pattern(), s.line(), s.stuck())
+        s.judge(pattern, *fault)
+    s.rows(s.pattern(), *s.any_fault())
 
 
 def every_row(s):
@@ -224,9 +259,9 @@ def every_row(s):
     s.load(s.rng.choice((shapes.small, shapes.middle, shapes.middle, shapes.large))(s.rng))
     for _ in range(6):
         s.say("put faulty", s.rng.randbytes(length_near(s.rng, s.board.lines)))
-        s.rows(s.pattern(), s.line(), s.stuck())
-        s.judge(s.pattern(), s.line(), s.stuck())
-        s.find(s.line(), s.stuck())
+        s.rows(s.pattern(), *s.any_fault())
+        s.judge(s.pattern(), *s.any_fault())
+        s.find(*s.any_fault())
         row, from_line = s.rng.choice(("good", "faulty")), s.rng.choice((s.line(), s.bad_line()))
         s.say("show", row, from_line)
 
@@ -234,12 +269,12 @@ def every_row(s):
 def largest(s):
     """Boards of up to 512 lines and 64 outputs through the calls that search little, and at times a whole book."""
     s.load(shapes.large(s.rng))
-    s.find(s.line(), s.stuck())
-    s.rows(s.pattern(), s.line(), s.stuck())
+    s.find(*s.any_fault())
+    s.rows(s.pattern(), *s.any_fault())
     s.refresh(s.line(), s.pattern())
-    s.five(*s.partial(), s.line(), s.stuck())
-    if s.rng.random() < 0.3:
-        s.book()
+    s.five(*s.partial(), *s.any_fault())
+    if s.rng.random() < 0.2:
+        s.rng.choice((s.book, s.pin_book))()
         s.alter(s.gate(), a_record(s, s.gate()))
 
 
@@ -248,9 +283,9 @@ def many_inputs(s):
     board = shapes.wide(s.rng)
     s.load(board)
     for _ in range(3):
-        s.rows(s.pattern(), s.line(), s.stuck())
-        s.judge(s.rng.choice((s.pattern(), s.bad_pattern())), s.line(), s.stuck())
-        s.five(*s.rng.choice((s.partial(), s.bad_partial())), s.line(), s.stuck())
+        s.rows(s.pattern(), *s.any_fault())
+        s.judge(s.rng.choice((s.pattern(), s.bad_pattern())), *s.any_fault())
+        s.five(*s.rng.choice((s.partial(), s.bad_partial())), *s.any_fault())
         s.say("put good", bytes(s.stuck() for _ in range(board.lines)))
         s.refresh(s.line(), s.rng.choice((s.pattern(), s.bad_pattern())))
     for output in (o for o in board.outputs if o < board.inputs):
@@ -258,9 +293,11 @@ def many_inputs(s):
         if s.afford(2 * board.lines << output):
             s.say("find", s.fault(output, 0))
     last = board.lines - 1
+    s.say("find", s.fault(last, s.stuck(), s.bad_pin(last)))
     s.say("put entry", s.rng.randrange(2 * board.lines), s.rng.choice((7, 2**32 - 1)))
+    s.say("put pin", 8 * last + s.rng.randrange(8), s.rng.choice((7, 2**32 - 1)))
     s.say("alter", last, shapes.packed(shapes.good_record(s.rng, last)))
-    s.look("entries", "image")
+    s.look("entries", "pin entries", "image")
 
 
 def refusals(s):
@@ -271,44 +308,78 @@ def refusals(s):
         if s.rng.random() < 0.4:
             s.say("lend rows", length_near(s.rng, n), length_near(s.rng, n))
         if s.rng.random() < 0.4:
-            s.say("lend book", length_near(s.rng, 2 * n))
+            s.lend_books()
         any_call(s, s.rng.choice((0.1, 0.3, 0.6)))
 
 
 def every_refusal(s):
     """Each refusal of each call alone, at its boundary."""
     s.load(shapes.small(s.rng))
-    n, line, stuck, pattern = s.board.lines, s.line(), s.stuck(), s.pattern()
-    named, values = s.partial()
-    for bad in (lambda: s.rows(pattern, s.bad_line(), stuck), lambda: s.rows(pattern, line, s.bad_stuck()),
-                lambda: s.rows(s.bad_pattern(), line, stuck), lambda: s.judge(pattern, s.bad_line(), stuck),
-                lambda: s.judge(pattern, line, s.bad_stuck()), lambda: s.judge(s.bad_pattern(), line, stuck),
-                lambda: s.find(s.bad_line(), stuck), lambda: s.find(line, s.bad_stuck()),
+    n, (line, stuck, pin), pattern, partial = s.board.lines, s.any_fault(), s.pattern(), s.partial()
+    for bad in ((s.bad_line(), stuck, pin), (line, s.bad_stuck(), pin)):
+        s.rows(pattern, *bad)
+        s.judge(pattern, *bad)
+        s.find(*bad)
+        s.five(*partial, *bad)
+    for bad in (lambda: s.rows(s.bad_pattern(), line, stuck, pin), lambda: s.judge(s.bad_pattern(), line, stuck, pin),
                 lambda: s.alter(s.bad_line(), a_record(s, line)), lambda: s.alter(line, shapes.bad_record(s.rng, line)),
                 lambda: s.alter(min(s.board.inputs, n - 1), make.record(make.INPUT)),
                 lambda: s.refresh(s.bad_line(), pattern), lambda: s.refresh(line, s.bad_pattern()),
-                lambda: s.refresh(n - 1, pattern), lambda: s.five(named, values, s.bad_line(), stuck),
-                lambda: s.five(named, values, line, s.bad_stuck()), lambda: s.five(*s.bad_partial(), line, stuck)):
+                lambda: s.refresh(n - 1, pattern), lambda: s.five(*s.bad_partial(), line, stuck, pin)):
         bad()
     s.say("lend rows", *s.rng.choice(((n + 1, n), (n, n + 1), (n - 1, n), (n, n - 1), (0, n), (n, 0))))
-    s.say("lend book", s.rng.choice((2 * n - 1, 2 * n + 1, n, 0)))
-    s.rows(pattern, line, stuck)
+    s.rows(pattern, line, stuck, pin)
     s.refresh(line, pattern)
-    s.five(named, values, line, stuck)
-    s.book()
-    s.alter(line, a_record(s, line))
+    s.five(*partial, line, stuck, pin)
+
+
+def every_absent_pin(s):
+    """Refusal 12 of each call alone, then with the tests before it and after it failing too."""
+    s.load(shapes.small(s.rng))
+    line, stuck, pattern, n = s.rng.choice((s.line(), s.gate())), s.stuck(), s.pattern(), s.board.lines
+    absent = s.bad_pin(line)
+    for bad in ((line, stuck, absent), (line, s.bad_stuck(), absent), (s.bad_line(), stuck, absent)):
+        s.rows(pattern, *bad)
+        s.judge(pattern, *bad)
+        s.find(*bad)
+        s.five(*s.partial(), *bad)
+    s.judge(s.bad_pattern(), line, stuck, absent)
+    s.rows(s.bad_pattern(), line, stuck, absent)
+    s.five(*s.bad_partial(), line, stuck, absent)
+    s.say("lend rows", n + 1, n)
+    for pin in (absent, s.pin(line)):
+        s.rows(s.rng.choice((pattern, s.bad_pattern())), line, stuck, pin)
+        s.five(*s.rng.choice((s.partial(), s.partial(), s.bad_partial())), line, stuck, pin)
+
+
+def every_book_length(s):
+    """Book, pin book and Alter with each book lent too short, too long and as long as the other; Alter with 6, 9 and 10 at once."""
+    s.load(shapes.small(s.rng))
+    book, pins = 2 * s.board.lines, 8 * s.board.lines
+    wrong_book, wrong_pins = s.rng.choice((0, 7, book - 1, book + 1)), s.rng.choice((0, 7, pins - 1, pins + 1))
+    for lent_book, lent_pins in ((wrong_book, pins), (book, wrong_pins), (pins, book), (book, pins)):
+        s.say("lend book", lent_book)
+        s.say("lend pins", lent_pins)
+        line = s.gate()
+        s.alter(line, s.rng.choice((shapes.packed(s.board.records[line]), shapes.bad_record(s.rng, line))))
+        s.alter(s.bad_line(), a_record(s, line))
+        s.book()
+        s.pin_book()
 
 
 def every_call(s):
-    """All calls once on whatever image is loaded, and a look at what was lent."""
+    """All calls once on whatever image is loaded, with a fault of each sort, and a look at what was lent."""
     s.say("lend rows", s.rng.choice((s.board.lines, 1)), s.board.lines)
     s.say("lend book", 2 * s.board.lines)
-    bad = s.rng.choice((0, 0.5))
-    line, stuck, pattern, (named, values) = s.mixed_arguments(bad)
+    s.say("lend pins", s.rng.choice((8, 2)) * s.board.lines)
+    (line, stuck, _), pattern, partial = s.mixed_arguments(s.rng.choice((0, 0.5)))
     s.say("check")
-    for call in (lambda: s.rows(pattern, line, stuck), lambda: s.judge(pattern, line, stuck), lambda: s.find(line, stuck),
-                 s.book, lambda: s.alter(line, a_record(s, line)), lambda: s.refresh(line, pattern),
-                 lambda: s.five(named, values, line, stuck)):
+    for pin in (None, s.rng.randrange(5)):
+        s.rows(pattern, line, stuck, pin)
+        s.judge(pattern, line, stuck, pin)
+        s.find(line, stuck, pin)
+        s.five(*partial, line, stuck, pin)
+    for call in (s.book, s.pin_book, lambda: s.alter(line, a_record(s, line)), lambda: s.refresh(line, pattern)):
         call()
 
 
@@ -336,6 +407,7 @@ def damaged_image(s):
     for _ in range(6):
         s.say("load", shapes.damaged(s.rng, image))
         s.say("lend rows", s.board.lines, s.board.lines)
+        s.look("pin entries")
         any_call(s, 0)
 
 
@@ -347,34 +419,55 @@ def random_image(s):
     every_call(s)
 
 
+def plant_entries(s):
+    """Puts a few numbers, most of them wrong, in entries of both books, absent pins' too."""
+    for _ in range(s.rng.randrange(3)):
+        s.say("put entry", s.rng.randrange(2 * s.board.lines), s.rng.choice((0, 1, 99, 2**32 - 1, 2**32 - 2, s.pattern())))
+    for _ in range(s.rng.randrange(3)):
+        s.say("put pin", s.rng.randrange(8 * s.board.lines), s.rng.choice((0, 1, 99, 2**32 - 1, 2**32 - 2, s.pattern())))
+
+
+def good_alteration(s, line):
+    """Puts a good record in a gate's line, and then asks for a pin that it had before or has now."""
+    before = s.pins(line)
+    record = shapes.good_record(s.rng, line)
+    if s.alter(line, shapes.packed(record)):
+        s.board.records[line] = record
+        fault = line, s.stuck(), s.rng.randrange(max(before, s.pins(line)))
+        s.rng.choice((lambda: s.find(*fault), lambda: s.judge(s.pattern(), *fault), lambda: s.rows(s.pattern(), *fault),
+                      lambda: s.five(*s.partial(), *fault)))()
+
+
 def alterations(s):
-    """A long run of alterations, accepted and refused, with wrong entries planted before."""
+    """A long run of alterations, accepted and refused, with wrong entries planted before; pin counts shrink and grow."""
     s.load(s.rng.choice((shapes.small, shapes.middle, shapes.some_islands, shapes.some_islands, shapes.late))(s.rng))
     if s.rng.random() < 0.7:
         s.book()
-    for _ in range(s.rng.randint(4, 20)):
-        for _ in range(s.rng.randrange(3)):
-            s.say("put entry", s.rng.randrange(2 * s.board.lines), s.rng.choice((0, 1, 99, 2**32 - 1, 2**32 - 2, s.pattern())))
+        s.pin_book()
+    for _ in range(s.rng.randint(4, 16)):
+        plant_entries(s)
         line = s.gate() if s.rng.random() < 0.85 else s.rng.choice((s.line(), s.bad_line()))
         if s.board.inputs <= line < s.board.lines and s.rng.random() < 0.7:
-            s.board.records[line] = shapes.good_record(s.rng, line)
-            s.alter(line, shapes.packed(s.board.records[line]))
+            good_alteration(s, line)
         else:
             s.alter(line, a_record(s, line))
     s.book()
+    s.pin_book()
 
 
 def bench_sheet(s):
-    """The alterations of T and H on the bench sheet, and S with its line 4."""
+    """The alterations of T and H on the bench sheet, and S with its line 4 and that line's pins."""
     for image, line, record in ((make.T, 2, make.record(make.AND, 0, 1)), (make.H, 3, make.record(make.NOT, 1)),
                                 (make.S, 4, make.record(make.OR, 1, 2))):
         s.say("load", image)
         s.say("book")
+        s.say("pin book")
         s.say("put entry 0", s.rng.choice((99, 2**32 - 1)))
-        s.say("find", s.fault(line, 0))
-        s.say("find", s.fault(line, 1))
+        s.say("put pin", s.rng.choice((0, 8 * line + s.rng.randrange(8), 16)), s.rng.choice((99, 2**32 - 1)))
+        for pin in (None, 0, 1, 2):
+            s.say("find", s.fault(line, s.stuck(), pin))
         s.say("alter", line, record)
-        s.look("entries", "image")
+        s.look("entries", "pin entries", "image")
 
 
 def refreshes(s):
@@ -382,7 +475,7 @@ def refreshes(s):
     s.load(s.rng.choice((shapes.small, shapes.middle, shapes.middle, shapes.large))(s.rng))
     pattern = s.pattern()
     for _ in range(6):
-        s.say("rows", pattern, s.fault(s.line(), s.stuck()))
+        s.say("rows", pattern, s.fault(*s.any_fault()))
         line = s.rng.choice((s.line(), s.line(), 0, s.board.lines - 1))
         row = bytearray(s.rng.randrange(2) for _ in range(s.board.lines))
         if s.rng.random() < 0.6:
@@ -395,14 +488,16 @@ def refreshes(s):
 
 
 def five_values(s):
-    """Partial patterns and faults on boards with gates that meet again."""
+    """Partial patterns and faults on boards with gates that meet again; a pin's D seldom comes through, and so has whole patterns too."""
     s.load(s.rng.choice((shapes.small, shapes.small, shapes.middle, shapes.large))(s.rng))
     inputs = s.board.inputs
     for _ in range(12):
         named = s.rng.getrandbits(inputs)
-        s.five(named, named & s.rng.getrandbits(inputs), s.line(), s.stuck())
+        s.five(named, named & s.rng.getrandbits(inputs), *s.any_fault())
+    for _ in range(4):
+        s.five((1 << inputs) - 1, s.pattern(), *s.pin_fault())
     s.five((1 << inputs) - 1, s.pattern(), s.line(), s.stuck())
-    s.five(0, 0, s.line(), s.stuck())
+    s.five(0, 0, *s.any_fault())
 
 
 def gate_tables(s):
@@ -416,23 +511,30 @@ def gate_tables(s):
         s.load(shapes.Board(records, sorted(s.rng.sample(range(len(records)), 64))))
         s.five(0b1011, 0b1010, 3, 0)
         s.rows(s.pattern(), 3, s.stuck())
+        for _ in range(4):
+            s.five(0b1011, 0b1010, *s.pin_fault())
+            s.rows(s.pattern(), *s.pin_fault())
 
 
 # what is no command
 
 WORDS = ("", "-", "x", "-1", "+1", "0x10", "1.5", "1e3", "18446744073709551616", "18446744073709551625", "99999999999999999999",
          "340282366920938463463374607431768211456", "0g", "0", "000", "00 00", "G0", "/", "/0", "4/", "4//0", "4/0/1", "4.0/1",
-         "4/0.1", " 4/0", "4/+0", "4/-0", "4/18446744073709551616", "99999999999999999999/0", "\t", "4\t", "\r", "4/0\r", "all", "book")
+         "4.", ".0/1", "4./1", "4.0", "4.0/", "4.0.1/1", "4..0/1", "4.+0/1", "4.-0/1", "4.18446744073709551616/1",
+         "4.0/18446744073709551616", "99999999999999999999.0/1", "4 .0/1", "4/.0/1", "4/0.1", " 4/0", "4/+0", "4/-0",
+         "4/18446744073709551616", "99999999999999999999/0", "\t", "4\t", "\r", "4/0\r", "4.0/1\r", "all", "book", "pin", "pins")
 FILE_WORDS = ("open", "save")
 
 
 def valid_commands(s):
     """A command of each sort, most of them good for the board."""
-    line, fault = s.line(), s.fault(s.line(), s.stuck())
-    return ["load " + s.board.image().hex(), "load -", "image", "check", "entries", "help", "book", "lend rows 3 4", "lend book 6",
-            "put good 0001", "put faulty -", f"put entry {line} 5", f"rows {s.pattern()} {fault}", f"judge {s.pattern()} {fault}",
-            f"find {fault}", f"alter {line} {shapes.packed(shapes.gate(s.rng, 0, line + 1)).hex()}", f"refresh {line} {s.pattern()}",
-            f"five 1 0 {fault}", f"show good {line}", f"show faulty {line}", "open good.img", "save own.img"]
+    line = s.line()
+    calls = [text for fault in (s.fault(s.line(), s.stuck()), s.fault(s.gate(), s.stuck(), s.rng.randrange(2)))
+             for text in (f"rows {s.pattern()} {fault}", f"judge {s.pattern()} {fault}", f"find {fault}", f"five 1 0 {fault}")]
+    return ["load " + s.board.image().hex(), "load -", "image", "check", "entries", "help", "book", *["pin book", "pin entries"] * 2,
+            "lend rows 3 4", "lend book 6", "lend pins 24", "put good 0001", "put faulty -", f"put entry {line} 5", f"put pin {line} 5",
+            *calls, f"alter {line} {shapes.packed(shapes.gate(s.rng, 0, line + 1)).hex()}", f"refresh {line} {s.pattern()}",
+            f"show good {line}", f"show faulty {line}", "open good.img", "save own.img"]
 
 
 def respaced(rng, text):
@@ -471,7 +573,7 @@ def no_command(rng):
 def malformed(s):
     """Lines that are no command, each with a look at something that must not have changed."""
     s.load(shapes.small(s.rng))
-    s.rows(s.pattern(), s.line(), s.stuck())
+    s.rows(s.pattern(), *s.any_fault())
     for text in valid_commands(s):
         s.commands.append(malformed_command(s.rng, text))
         s.look(s.rng.choice(LOOKS).decode())
@@ -485,16 +587,19 @@ def lengths(s):
     """The console's own limits at the boundary: lent lengths, bytes to put and entries."""
     s.load(shapes.small(s.rng))
     n = s.board.lines
-    for place in (0, 2 * n - 1, 2 * n, s.rng.choice((2**32, 2**32 + 1, TOP))):
-        s.say("put entry", place, s.rng.choice((5, 2**32 - 1)))
-        s.say("put entry", place, s.rng.choice((2**32, 2**32 + 5, TOP)))
-    s.look("entries")
+    for name, entries in (("put entry", 2 * n), ("put pin", 8 * n)):
+        for place in (0, entries - 1, entries, s.rng.choice((2**32, 2**32 + 1, TOP))):
+            s.say(name, place, s.rng.choice((5, 2**32 - 1)))
+            s.say(name, place, s.rng.choice((2**32, 2**32 + 5, TOP)))
+    s.look("entries", "pin entries")
     s.say("lend rows", *s.rng.choice(((8192, 8192), (8193, 1), (1, 8193), (0, 0), (TOP, 1), (2**32, 2**32), (7, 8193))))
     s.say("put", s.rng.choice(("good", "faulty")), bytes(s.rng.choice((8191, 8192, 8193))))
     s.look("show good 8190", "show faulty 1")
     s.say("lend book", s.rng.choice((16384, 16385, 2**32, TOP, 0)))
     s.say("put entry", s.rng.choice((16383, 16384, 0)), 5)
-    s.look("entries")
+    s.say("lend pins", s.rng.choice((65536, 65537, 16385, 2**32, TOP, 0)))
+    s.say("put pin", s.rng.choice((65535, 65536, 16384, 0)), 5)
+    s.look("entries", "pin entries")
     any_call(s, 0)
 
 
@@ -508,7 +613,7 @@ def long_lines(s):
     if s.rng.random() < 0.4:
         image = s.board.image()
         s.say("load", bytes(s.rng.choice((65_536, 65_537, 5_517, 65_535)) - len(image)) + image)
-        s.look("check", "show good 0", "entries")
+        s.look("check", "show good 0", "entries", "pin entries")
 
 
 PATHS = ("good.img", "empty", "full", "large", "huge", "folder", "folder/", "missing", "missing/a.img", ".", "/", "/dev/null",
@@ -531,14 +636,14 @@ def files(s):
         s.say("open", s.rng.choice(PATHS))
         s.look(s.rng.choice(LOOKS).decode())
         s.say("open", path)
-        s.look("image", "show good 0")
+        s.look("image", "show good 0", "pin entries")
 
 
 # each sort of part and how often it comes
 PARTS = {
-    exhaustive: 6, every_row: 6, largest: 2, many_inputs: 3, refusals: 8, every_refusal: 5, bad_image: 4, bad_boards: 5,
-    damaged_image: 5, random_image: 3, alterations: 10, bench_sheet: 2, refreshes: 5, five_values: 5, malformed: 8, lengths: 4,
-    long_lines: 3, files: 5,
+    exhaustive: 6, every_row: 6, largest: 2, many_inputs: 3, refusals: 8, every_refusal: 5, every_absent_pin: 4, every_book_length: 4,
+    bad_image: 4, bad_boards: 5, damaged_image: 5, random_image: 3, alterations: 10, bench_sheet: 2, refreshes: 5, five_values: 5,
+    malformed: 8, lengths: 4, long_lines: 3, files: 5,
 }
 
 

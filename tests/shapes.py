@@ -26,6 +26,15 @@ class Board:
         """How many gate values a search for so many faults asks for at most."""
         return faults * 2 * self.lines << self.inputs
 
+    def used_pins(self):
+        """How many pins all its gates have."""
+        return sum(len(pins) for _, pins in self.records)
+
+    def faults(self):
+        """All its faults as (line, stuck value, pin), of lines with no pin and of used pins."""
+        places = [(line, pin) for line, (_, pins) in enumerate(self.records) for pin in (None, *range(len(pins)))]
+        return [(line, stuck, pin) for line, pin in places for stuck in (0, 1)]
+
     def record_at(self, line):
         """Where a line's record starts in the image."""
         return len(self.note) + 10 * line
