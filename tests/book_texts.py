@@ -1,25 +1,29 @@
 #!/usr/bin/env python3
-"""The book as text: the program `book` against the independent program on the same images, whole.
+"""The books as text: the program `book` against the independent program on the same images, whole; and what the papers say of some.
+
+    tests/book_texts.py                          the product's program
+    tests/book_texts.py --product PROGRAM ...    another program in its place
 
 Its last line is 'N passed, M failed'.
 """
+import argparse
 import random
 import subprocess
-import sys
 
+import counted
 import programs
 from shapes import make
 
 record, image = make.record, make.image
 
 
-def random_board(seed, inputs, lines, outputs):
-    """A board with gates of every kind and pin count, on random lower lines."""
+def random_board(seed, inputs, lines, outputs, fewest_pins=1):
+    """A board with gates of every kind and pin count, or of every kind that has so many pins, on random lower lines."""
     rng = random.Random(seed)
     records = [record(make.INPUT) for _ in range(inputs)]
     for i in range(inputs, lines):
-        kind = rng.randrange(1, 9)
-        pins = 1 if kind < 3 else rng.randrange(2, 5)
+        kind = rng.randrange(1 if fewest_pins == 1 else 3, 9)
+        pins = 1 if kind < 3 else rng.randrange(max(2, fewest_pins), 5)
         records.append(record(kind, *(rng.randrange(max(0, i - 24), i) for _ in range(pins))))
     return image(records, sorted(rng.sample(range(lines), outputs)))
 
@@ -33,9 +37,13 @@ CASES = {
     "S": make.S,
     "T": make.T,
     "H": make.H,
-    "12 inputs, 100 lines": random_board(12, 12, 100, 5),
-    "512 lines": random_board(512, 6, 512, 64),
+    "10 inputs, 100 lines": random_board(12, 10, 100, 5),
+    "512 lines": random_board(512, 5, 512, 64),
+    "every gate on four pins": random_board(4, 4, 60, 3, 4),
     "an input that is an output": image([record(make.INPUT)], [0]),
+    "inputs alone": image([record(make.INPUT)] * 5, [1, 3]),
+    "a line on two pins": image([record(make.INPUT), record(make.XOR, 0, 0)], [1]),
+    "a gate that reaches no output": image([record(make.INPUT), record(make.AND, 0, 0), record(make.NOT, 0)], [2]),
     "the empty image": b"",
     "no line": image([], [0]),
     "a trailer alone": make.T[-12:],
@@ -48,16 +56,38 @@ CASES = {
     "a megabyte that ends in bad counts": bytes(1_000_000) + make.image([], [0])[-12:],
 }
 
-programs.build_oracle()
-programs.build("book")
-passed = failed = 0
-for name, data in CASES.items():
-    expected = run([programs.ORACLE, "book"], data)
-    written = run([programs.LAUNCHER, "book"], data)
-    if written == expected and expected.endswith(b"\n"):
-        passed += 1
-    else:
-        failed += 1
-        print(f"FAILED: {name}: expected {expected[-80:]!r}, found {written[-80:]!r}")
-print(f"{passed} passed, {failed} failed")
-sys.exit(1 if failed else 0)
+# whole texts written by hand from the papers
+BY_HAND = {
+    "T": b"board 3 lines 1 inputs 1 outputs\n0/0 none\n0/1 none\n1/0 0\n1/1 none\n2/0 0\n2/1 none\nfound 2 of 6\n"
+         b"1.0/0 none\n1.0/1 0\n2.0/0 1\n2.0/1 none\n2.1/0 0\n2.1/1 none\npins found 3 of 6\n",
+    "H": b"board 4 lines 2 inputs 2 outputs\n0/0 1\n0/1 0\n1/0 2\n1/1 0\n2/0 0\n2/1 1\n3/0 2\n3/1 0\nfound 8 of 8\n"
+         b"2.0/0 1\n2.0/1 0\n3.0/0 2\n3.0/1 0\npins found 4 of 4\n",
+    "an input that is an output": b"board 1 lines 1 inputs 1 outputs\n0/0 1\n0/1 0\nfound 2 of 2\npins found 0 of 0\n",
+    "inputs alone": b"board 5 lines 5 inputs 2 outputs\n0/0 none\n0/1 none\n1/0 2\n1/1 0\n2/0 none\n2/1 none\n3/0 8\n3/1 0\n"
+                    b"4/0 none\n4/1 none\nfound 4 of 10\npins found 0 of 0\n",
+    "a line on two pins": b"board 2 lines 1 inputs 1 outputs\n0/0 none\n0/1 none\n1/0 none\n1/1 0\nfound 1 of 4\n"
+                          b"1.0/0 1\n1.0/1 0\n1.1/0 1\n1.1/1 0\npins found 4 of 4\n",
+    "4 at 2.3": b"refused 4 at 2.3\n",
+}
+
+
+def main():
+    """Every image through both programs, and the texts by hand."""
+    words = argparse.ArgumentParser(description=__doc__, formatter_class=argparse.RawDescriptionHelpFormatter)
+    words.add_argument("--product", nargs="+", default=[programs.LAUNCHER, "book"], help="another program to hold against it")
+    product = words.parse_args().product
+    programs.build_oracle()
+    if product[0] == programs.LAUNCHER:
+        programs.build("book")
+    for name, data in CASES.items():
+        expected, written = run([programs.ORACLE, "book"], data), run(product, data)
+        counted.count(name, written == expected and expected.endswith(b"\n"), f"expected {expected[-80:]!r}, found {written[-80:]!r}")
+        if name in BY_HAND:
+            counted.count(f"{name}, by hand", written == BY_HAND[name], f"found {written!r}")
+        if name == "S":
+            counted.count("S, line 4's first pin at 1", b"\n4.0/1 0\n" in written, f"found {written!r}")
+    counted.end()
+
+
+if __name__ == "__main__":
+    main()
