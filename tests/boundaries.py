@@ -1,16 +1,21 @@
 #!/usr/bin/env python3
-"""Document 01's boundaries, through the console: images and the answers that the papers have for them, written by hand side by side.
+"""The papers' boundaries, through the console: images and the answers that the papers have for them, written by hand side by side.
+
+    tests/boundaries.py                          the product's console
+    tests/boundaries.py --product PROGRAM ...    another program in its place
 
 Its last line is 'N passed, M failed'.
 """
+import argparse
 import subprocess
-import sys
 
+import counted
 import programs
 from shapes import make
 
 record, image, changed = make.record, make.image, make.changed
 INPUT, BUFFER, NOT, AND, OR, T = make.INPUT, make.BUFFER, make.NOT, make.AND, make.OR, make.T
+NONE = 4294967295
 
 
 def chain(lines):
@@ -69,20 +74,272 @@ ON_T = [
 ]
 
 
+def book(word, *runs):
+    """A book as the console writes it: its word, then runs of a number and how often it stands there."""
+    return word + "".join(f" {number}" * times for number, times in runs)
+
+
+# document 02, W1: a fault on one pin
+
+# line 4 of board S is nor(1,2); only pattern 0 shows it at 0, so does a pin of it at 1, and at 0 none shows a pin of it
+ON_S = [
+    ("find 4.0/1", "0"),
+    ("find 04.00/01", "0"),
+    ("find 4.0/0", "none"),
+    ("find 4.1/1", "0"),
+    ("find 4.1/0", "none"),
+    ("find 11.3/0", "8"),
+    ("find 4.2/0", "refused 12"),
+    ("find 11.4/0", "refused 12"),
+    ("find 4.256/0", "refused 12"),
+    ("find 4.65536/0", "refused 12"),
+    ("find 4.4294967296/0", "refused 12"),
+    ("find 4.1000000000000000000/0", "refused 12"),
+    ("find 4.18446744073709551615/0", "refused 12"),
+    ("find 0.0/0", "refused 12"),
+    ("find 0.0/1", "refused 12"),
+    ("find 0.3/1", "refused 12"),
+    ("find 3.18446744073709551615/1", "refused 12"),
+    ("find 12.0/0", "refused 6"),
+    ("find 12.9/9", "refused 6"),
+    ("find 4.2/2", "refused 7"),
+    ("find 4.0/256", "refused 7"),
+    ("find 0.0/2", "refused 7"),
+    ("judge 0 4.0/1", "yes"),
+    ("judge 1 4.0/1", "no"),
+    ("judge 16 4.1/0", "refused 8"),
+    ("judge 16 4.2/0", "refused 12"),
+    ("judge 16 4.2/2", "refused 7"),
+    ("judge 16 12.2/2", "refused 6"),
+    ("rows 0 4.0/1", "filled"),
+    ("show good 0", "row 000000000100000100010001"),
+    ("show faulty 0", "row 000000000001010100010000"),
+    ("lend rows 11 12", "lent"),
+    ("rows 16 4.2/0", "refused 12"),
+    ("rows 0 4.2/0", "refused 12"),
+    ("rows 16 4.1/0", "refused 8"),
+    ("rows 0 4.1/0", "refused 9"),
+    ("five 0 1 4.2/0", "refused 12"),
+    ("five 0 0 4.2/0", "refused 12"),
+    ("five 0 1 4.1/0", "refused 8"),
+    ("five 0 0 4.1/0", "refused 9"),
+    ("show good 0", "row 0909090909090909090909"),
+    ("lend pins 96", "lent"),
+    ("lend book 24", "lent"),
+    ("find 4.", "?"),
+    ("find 4.0", "?"),
+    ("find .0/1", "?"),
+    ("find 4./1", "?"),
+    ("find 4.0/", "?"),
+    ("find 4.0.1/1", "?"),
+    ("find 4/0.1", "?"),
+    ("find 4.+0/1", "?"),
+    ("find 4.18446744073709551616/1", "?"),
+]
+
+# board T is 1 not(0), 2 or(0,1), so that line 0 has two readers; its output is always 1
+PINS_OF_T = [
+    ("pin entries", book("pins", (99, 24))),
+    ("rows 1 2.0/0", "filled"),
+    ("show good 0", "row 010001"),
+    ("show faulty 0", "row 010000"),
+    ("rows 0 1.0/1", "filled"),
+    ("show faulty 0", "row 000000"),
+    ("five 1 1 2.0/0", "drives 1"),
+    ("show good 0", "row 010003"),
+    ("five 1 0 1.0/1", "drives 1"),
+    ("show good 0", "row 000303"),
+    ("five 1 1 1.0/0", "drives 0"),
+    ("show good 0", "row 010401"),
+    ("five 1 1 1.0/1", "drives 0"),
+    ("show good 0", "row 010001"),
+    ("five 0 0 2.0/0", "drives 0"),
+    ("show good 0", "row 020202"),
+    ("pin book", "found 3 of 24"),
+    ("pin entries", book("pins", (NONE, 9), (0, 1), (NONE, 6), (1, 1), (NONE, 1), (0, 1), (NONE, 5))),
+    ("entries", book("entries", (99, 6))),
+    ("lend pins 0", "lent"),
+    ("pin book", "refused 9"),
+    ("lend pins 7", "lent"),
+    ("pin book", "refused 9"),
+    ("pin entries", book("pins", (99, 7))),
+    ("lend pins 23", "lent"),
+    ("pin book", "refused 9"),
+    ("lend pins 25", "lent"),
+    ("pin book", "refused 9"),
+    ("lend pins 6", "lent"),
+    ("pin book", "refused 9"),
+    ("lend pins 65536", "lent"),
+    ("put pin 65535 5", "lent"),
+    ("put pin 65536 5", "?"),
+    ("pin book", "refused 9"),
+    ("lend pins 24", "lent"),
+    ("lend pins 65537", "?"),
+    ("put pin 23 4294967295", "lent"),
+    ("put pin 24 0", "?"),
+    ("put pin 0 4294967296", "?"),
+    ("put pin 18446744073709551615 0", "?"),
+    ("pin entries", book("pins", (99, 23), (NONE, 1))),
+]
+
+# both lent books have to be of the right length, tested after 6 and before 10
+LENT_TO_ALTER = [
+    ("lend book 5", "lent"),
+    ("alter 2 03020000010000000000", "refused 9"),
+    ("lend book 7", "lent"),
+    ("alter 2 03020000010000000000", "refused 9"),
+    ("lend book 6", "lent"),
+    ("lend pins 23", "lent"),
+    ("alter 2 03020000010000000000", "refused 9"),
+    ("lend pins 25", "lent"),
+    ("alter 2 03020000010000000000", "refused 9"),
+    ("alter 0 01010000000000000000", "refused 9"),
+    ("alter 2 00000000000000000000", "refused 9"),
+    ("alter 3 00000000000000000000", "refused 6"),
+    ("entries", book("entries", (99, 6))),
+    ("pin entries", book("pins", (99, 25))),
+    ("lend book 24", "lent"),
+    ("lend pins 6", "lent"),
+    ("alter 2 03020000010000000000", "refused 9"),
+    ("lend pins 24", "lent"),
+    ("alter 2 03020000010000000000", "refused 9"),
+    ("image", "image " + T.hex()),
+    ("lend book 6", "lent"),
+    ("alter 0 01010000000000000000", "refused 10"),
+    ("alter 2 00000000000000000000", "refused 10"),
+    ("pin entries", book("pins", (99, 24))),
+    ("alter 2 03020000010000000000", "found 5 of 30"),
+    ("entries", book("entries", (NONE, 3), (1, 1), (NONE, 1), (0, 1))),
+    ("pin entries", book("pins", (NONE, 8), (1, 1), (NONE, 8), (0, 1), (NONE, 1), (1, 1), (NONE, 4))),
+]
+
+# T with line 2 as not(1), which has one pin, and then as or(0,1) again
+PIN_TAKEN_AWAY = [
+    ("put pin 18 7", "lent"),
+    ("find 2.1/0", "0"),
+    ("alter 2 02010100000000000000", "found 10 of 30"),
+    ("entries", "entries 1 0 0 1 1 0"),
+    ("pin entries", book("pins", (NONE, 8), (1, 1), (0, 1), (NONE, 6), (0, 1), (1, 1), (NONE, 6))),
+    ("find 2.1/0", "refused 12"),
+    ("find 2.0/0", "0"),
+    ("alter 2 05020000010000000000", "found 5 of 30"),
+    ("entries", book("entries", (NONE, 2), (0, 1), (NONE, 1), (0, 1), (NONE, 1))),
+    ("pin entries", book("pins", (NONE, 9), (0, 1), (NONE, 6), (1, 1), (NONE, 1), (0, 1), (NONE, 5))),
+    ("find 2.1/0", "0"),
+]
+
+# on board H line 3 shares its output with line 1 alone, and as and(0,1) with line 0 too; never with line 2
+PINS_OF_H = [
+    ("alter 3 02010100000000000000", "found 26 of 40"),
+    ("entries", "entries 99 99 2 0 99 99 0 2"),
+    ("pin entries", book("pins", (99, 8), (NONE, 8), (99, 8), (2, 1), (0, 1), (NONE, 6))),
+    ("alter 3 01010100000000000000", "found 26 of 40"),
+    ("book", "found 8 of 8"),
+    ("entries", "entries 1 0 2 0 0 1 2 0"),
+    ("pin book", "found 4 of 32"),
+    ("pin entries", book("pins", (NONE, 16), (1, 1), (0, 1), (NONE, 6), (2, 1), (0, 1), (NONE, 6))),
+    ("put entry 0 99", "lent"),
+    ("put entry 2 99", "lent"),
+    ("put pin 0 99", "lent"),
+    ("put pin 8 99", "lent"),
+    ("put pin 16 77", "lent"),
+    ("put pin 17 4294967295", "lent"),
+    ("put pin 18 99", "lent"),
+    ("put pin 26 66", "lent"),
+    ("alter 3 02010100000000000000", "found 13 of 40"),
+    ("entries", "entries 99 0 2 0 0 1 0 2"),
+    ("pin entries", book("pins", (99, 1), (NONE, 15), (77, 1), (NONE, 1), (99, 1), (NONE, 5), (2, 1), (0, 1), (NONE, 6))),
+    ("alter 3 03020000010000000000", "found 14 of 40"),
+    ("entries", "entries 1 0 3 1 0 1 3 0"),
+    ("pin entries", book("pins", (NONE, 16), (77, 1), (NONE, 1), (99, 1), (NONE, 5), (3, 1), (2, 1), (3, 1), (1, 1), (NONE, 4))),
+]
+
+# a gate that reaches no output, altered from and(0,1) to not(0): nothing is touched
+LOOSE = image([record(INPUT), record(INPUT), record(AND, 0, 1)], [0])
+PINS_OF_LOOSE = [
+    ("find 2.1/0", "none"),
+    ("alter 2 02010000000000000000", "found 30 of 30"),
+    ("entries", book("entries", (99, 6))),
+    ("pin entries", book("pins", (99, 24))),
+    ("find 2.1/0", "refused 12"),
+    ("find 2.0/0", "none"),
+]
+
+# five values of and(0,1): an x on the held pin stays x, and a settled one that differs reads D or D-bar
+ONE_AND = image([record(INPUT), record(INPUT), record(AND, 0, 1)], [2])
+PINS_OF_AND = [
+    ("five 3 3 2.1/0", "drives 1"),
+    ("show good 0", "row 010103"),
+    ("five 3 1 2.1/1", "drives 1"),
+    ("show good 0", "row 010004"),
+    ("five 3 3 2.1/1", "drives 0"),
+    ("show good 0", "row 010101"),
+    ("five 2 2 2.0/0", "drives 0"),
+    ("show good 0", "row 020102"),
+    ("five 2 0 2.0/1", "drives 0"),
+    ("show good 0", "row 020000"),
+]
+
+# a refused image lends a pin book of length 0
+REFUSED = changed(T, 30, b"\x03\x00")
+PINS_OF_REFUSED = [
+    ("pin entries", "pins"),
+    ("put pin 0 1", "?"),
+    ("pin book", "refused 5 at 0"),
+    ("find 0.0/0", "refused 5 at 0"),
+    ("lend pins 24", "lent"),
+    ("pin book", "refused 5 at 0"),
+    ("alter 2 03020000010000000000", "refused 5 at 0"),
+    ("pin entries", book("pins", (99, 24))),
+]
+
+BEFORE_LOAD = [("pin entries", "pins"), ("pin book", "refused 1"), ("find 0.0/0", "refused 1"), ("put pin 0 1", "?")]
+# a board's name and image, what Check says of it, and what is asked of it
+S_COUNTS, T_COUNTS = "board 12 lines 4 inputs 1 outputs", "board 3 lines 1 inputs 1 outputs"
+ASKED = [
+    ("T", T, T_COUNTS, ON_T),
+    ("S", make.S, S_COUNTS, ON_S),
+    ("T", T, T_COUNTS, PINS_OF_T),
+    ("T", T, T_COUNTS, LENT_TO_ALTER),
+    ("T", T, T_COUNTS, PIN_TAKEN_AWAY),
+    ("H", make.H, "board 4 lines 2 inputs 2 outputs", PINS_OF_H),
+    ("a loose gate", LOOSE, "board 3 lines 2 inputs 1 outputs", PINS_OF_LOOSE),
+    ("one and", ONE_AND, "board 3 lines 2 inputs 1 outputs", PINS_OF_AND),
+    ("a refused image", REFUSED, "refused 5 at 0", PINS_OF_REFUSED),
+]
+
+
+def everything():
+    """All that is asked, in turn, as name, command and answer."""
+    asked = [(f"before load: {command}", command, said) for command, said in BEFORE_LOAD]
+    asked += [(name, f"load {data.hex() or '-'}", said) for name, data, said in IMAGES]
+    for board, data, counts, questions in ASKED:
+        asked.append((board, f"load {data.hex()}", counts))
+        asked += [(f"{board}: {command}", command, said) for command, said in questions]
+    return asked
+
+
+def is_right(said, answer):
+    """Whether an answer is the one that is wanted; '?' stands for any reason."""
+    return answer == said or said == "?" and answer.startswith("? ")
+
+
 def main():
     """Asks everything in one run, and says what was answered otherwise."""
-    commands = [f"load {data.hex() or '-'}" for _, data, _ in IMAGES] + [f"load {T.hex()}"] + [asked for asked, _ in ON_T]
-    names = [name for name, _, _ in IMAGES] + ["board T again"] + [asked for asked, _ in ON_T]
-    expected = [said for _, _, said in IMAGES] + ["board 3 lines 1 inputs 1 outputs"] + [said for _, said in ON_T]
-    script = "".join(command + "\n" for command in commands)
-    programs.build("bench")
-    written = subprocess.run([programs.LAUNCHER], input=script, stdout=subprocess.PIPE, text=True, check=True, timeout=600).stdout
+    words = argparse.ArgumentParser(description=__doc__, formatter_class=argparse.RawDescriptionHelpFormatter)
+    words.add_argument("--product", nargs="+", default=[programs.LAUNCHER], help="another program to ask")
+    product = words.parse_args().product
+    if product[0] == programs.LAUNCHER:
+        programs.build("bench")
+    asked = everything()
+    script = "".join(command + "\n" for _, command, _ in asked)
+    written = subprocess.run(product, input=script, stdout=subprocess.PIPE, text=True, check=True, timeout=600).stdout
     answers = written.split("\n")[:-1]
-    wrong = [f"FAILED: {n}: expected {e!r}, found {a!r}" for n, e, a in zip(names, expected, answers) if e != a]
-    wrong += ["FAILED: not one answer a command"] * (len(answers) != len(expected))
-    print("\n".join(wrong + [f"{len(expected) - len(wrong)} passed, {len(wrong)} failed"]))
-    return 1 if wrong else 0
+    counted.count("one answer a command", len(answers) == len(asked), f"{len(answers)} for {len(asked)}")
+    for (name, _, said), answer in zip(asked, answers):
+        counted.count(name, is_right(said, answer), f"expected {said!r}, found {answer!r}")
+    counted.end()
 
 
 if __name__ == "__main__":
-    sys.exit(main())
+    main()
