@@ -265,6 +265,15 @@ PINS_OF_LOOSE = [
     ("find 2.0/0", "none"),
 ]
 
+# inputs alone have no pin, and so nothing to search for, however many patterns there are
+INPUTS = image([record(INPUT)] * 24, [23])
+PINS_OF_INPUTS = [
+    ("pin book", "found 0 of 192"),
+    ("pin entries", book("pins", (NONE, 192))),
+    ("find 23.0/0", "refused 12"),
+    ("alter 23 01010000000000000000", "refused 10"),
+]
+
 # five values of and(0,1): an x on the held pin stays x, and a settled one that differs reads D or D-bar
 ONE_AND = image([record(INPUT), record(INPUT), record(AND, 0, 1)], [2])
 PINS_OF_AND = [
@@ -304,6 +313,7 @@ ASKED = [
     ("T", T, T_COUNTS, PIN_TAKEN_AWAY),
     ("H", make.H, "board 4 lines 2 inputs 2 outputs", PINS_OF_H),
     ("a loose gate", LOOSE, "board 3 lines 2 inputs 1 outputs", PINS_OF_LOOSE),
+    ("24 inputs", INPUTS, "board 24 lines 24 inputs 1 outputs", PINS_OF_INPUTS),
     ("one and", ONE_AND, "board 3 lines 2 inputs 1 outputs", PINS_OF_AND),
     ("a refused image", REFUSED, "refused 5 at 0", PINS_OF_REFUSED),
 ]
