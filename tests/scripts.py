@@ -267,15 +267,14 @@ def every_row(s):
 
 
 def largest(s):
-    """Boards of up to 512 lines and 64 outputs through the calls that search little, and at times a whole book."""
+    """Boards of up to 512 lines and 64 outputs through the calls that search little, and whole books where their time is at hand."""
     s.load(shapes.large(s.rng))
     s.find(*s.any_fault())
     s.rows(s.pattern(), *s.any_fault())
     s.refresh(s.line(), s.pattern())
     s.five(*s.partial(), *s.any_fault())
-    if s.rng.random() < 0.2:
-        s.rng.choice((s.book, s.pin_book))()
-        s.alter(s.gate(), a_record(s, s.gate()))
+    for call in s.rng.sample((s.book, s.pin_book, lambda: good_alteration(s, s.gate())), 3):
+        call()
 
 
 def many_inputs(s):
@@ -460,8 +459,7 @@ def bench_sheet(s):
     for image, line, record in ((make.T, 2, make.record(make.AND, 0, 1)), (make.H, 3, make.record(make.NOT, 1)),
                                 (make.S, 4, make.record(make.OR, 1, 2))):
         s.say("load", image)
-        s.say("book")
-        s.say("pin book")
+        s.look("book", "entries", "pin book", "pin entries")
         s.say("put entry 0", s.rng.choice((99, 2**32 - 1)))
         s.say("put pin", s.rng.choice((0, 8 * line + s.rng.randrange(8), 16)), s.rng.choice((99, 2**32 - 1)))
         for pin in (None, 0, 1, 2):
