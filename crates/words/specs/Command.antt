@@ -6,6 +6,7 @@ use Prim.Native.String.{String}
 use lib.Dec.{eqb}
 use lib.ListN.{length}
 use Rattle.board.specs.Lists.{text}
+use Rattle.board.specs.declared.Sort.the-variants.{Lines, Pins}
 use Rattle.words.specs.Parts.{words, last}
 use Rattle.words.specs.Number.{numberAt}
 use Rattle.words.specs.Fault.{faultOf}
@@ -13,11 +14,11 @@ use Rattle.words.specs.Forms.{firstForm}
 use Rattle.words.specs.declared.command.Why.the-variants.{Empty, Unknown}
 use Rattle.words.specs.declared.command.Values.{Values}
 use Rattle.words.specs.declared.command.Command.{Command}
-use Rattle.words.specs.declared.command.Command.the-variants.{Anew, OnImage, OnRows, OnBook, Help, Unread}
+use Rattle.words.specs.declared.command.Command.the-variants.{Anew, OnImage, OnRows, OnBook, Alter, Help, Unread}
 use Rattle.words.specs.declared.command.Anew.the-variants.{Load, Open}
 use Rattle.words.specs.declared.command.OnImage.the-variants.{Save, Image, Check, Judge, Find}
 use Rattle.words.specs.declared.command.OnRows.the-variants.{Lend as LendRows, PutGood, PutFaulty, Rows, Refresh, Five, ShowGood, ShowFaulty}
-use Rattle.words.specs.declared.command.OnBook.the-variants.{Lend as LendBook, Put, Book, Alter, Entries}
+use Rattle.words.specs.declared.command.OnBook.the-variants.{Lend as LendBook, Put, Book, Entries}
 use Rattle.words.specs.declared.forms.Form.{Form}
 use Rattle.words.specs.declared.forms.Form.the-variants.{At, None}
 
@@ -52,11 +53,15 @@ table v =
     ∷ asked-by "five N N F" (OnRows (Five (v .one) (v .two) (v .fault)))
     ∷ asked-by "show good N" (OnRows (ShowGood (v .two)))
     ∷ asked-by "show faulty N" (OnRows (ShowFaulty (v .two)))
-    ∷ asked-by "lend book N" (OnBook (LendBook (v .two)))
-    ∷ asked-by "put entry N N" (OnBook (Put (v .two) (v .three)))
-    ∷ asked-by "book" (OnBook Book)
-    ∷ asked-by "alter N H" (OnBook (Alter (v .one) (v .from)))
-    ∷ asked-by "entries" (OnBook Entries)
+    ∷ asked-by "lend book N" (OnBook Lines (LendBook (v .two)))
+    ∷ asked-by "put entry N N" (OnBook Lines (Put (v .two) (v .three)))
+    ∷ asked-by "book" (OnBook Lines Book)
+    ∷ asked-by "entries" (OnBook Lines Entries)
+    ∷ asked-by "lend pins N" (OnBook Pins (LendBook (v .two)))
+    ∷ asked-by "put pin N N" (OnBook Pins (Put (v .two) (v .three)))
+    ∷ asked-by "pin book" (OnBook Pins Book)
+    ∷ asked-by "pin entries" (OnBook Pins Entries)
+    ∷ asked-by "alter N H" (Alter (v .one) (v .from))
     ∷ asked-by "help" Help
     ∷ []
 

@@ -6,6 +6,7 @@ use crate::number::number_at;
 use crate::parts::last_start;
 use crate::parts::next_start;
 use board::Fault;
+use board::Sort;
 use image::numbers::tail;
 ghost use mathlib.Core.Path.{_≡_};
 ghost use Prim.Native.Nat.{_≤_};
@@ -70,12 +71,11 @@ pub enum OnRows {
     },
 }
 
-// Those that use the book.
+// Those that use one book, the line book or the pin book.
 pub enum OnBook {
     Lend { numbers: u64 },
     Put { place: u64, number: u64 },
     Book,
-    Alter { line: u64, from: usize },
     Entries,
 }
 
@@ -84,7 +84,8 @@ pub enum Command {
     Anew(Anew),
     OnImage(OnImage),
     OnRows(OnRows),
-    OnBook(OnBook),
+    OnBook(Sort, OnBook),
+    Alter { line: u64, from: usize },
     Help,
     Unread(Why),
 }
@@ -168,24 +169,30 @@ fn asked_on_rows(form: usize, v: Values) -> Command
     }
 }
 
-// The same for the commands on the book, and for `help`.
+// The same for the commands on one book, for `alter` and for `help`.
 fn asked_on_book(form: usize, v: Values) -> Command
     requires { ⌜ 15 ≤ form ⌝ }
     ensures { λ r. ⌜ r ≡ asksAt (table v) form ⌝ }
 {
+    let lend = OnBook::Lend { numbers: v.two };
+    let put = OnBook::Put {
+        place: v.two,
+        number: v.three,
+    };
     match form {
-        15 => Command::OnBook(OnBook::Lend { numbers: v.two }),
-        16 => Command::OnBook(OnBook::Put {
-            place: v.two,
-            number: v.three,
-        }),
-        17 => Command::OnBook(OnBook::Book),
-        18 => Command::OnBook(OnBook::Alter {
+        15 => Command::OnBook(Sort::Lines, lend),
+        16 => Command::OnBook(Sort::Lines, put),
+        17 => Command::OnBook(Sort::Lines, OnBook::Book),
+        18 => Command::OnBook(Sort::Lines, OnBook::Entries),
+        19 => Command::OnBook(Sort::Pins, lend),
+        20 => Command::OnBook(Sort::Pins, put),
+        21 => Command::OnBook(Sort::Pins, OnBook::Book),
+        22 => Command::OnBook(Sort::Pins, OnBook::Entries),
+        23 => Command::Alter {
             line: v.one,
             from: v.from,
-        }),
-        19 => Command::OnBook(OnBook::Entries),
-        20 => Command::Help,
+        },
+        24 => Command::Help,
         _ => Command::Unread(Why::Unknown),
     }
 }

@@ -9,7 +9,7 @@ use Rattle.words.proofs.command.values_of.Tie as tie
 returns : tie.Need-returns
 unfolding partsFrom
 returns c =
-    let found = c .before .before .before .before in
+    let found = c .before .before .before in
     let last = found .before .before in
     let third = last .before in
     let n1 = third .before .before .next-start .ensures in
