@@ -1,9 +1,11 @@
 // Reads an image from standard input and writes its book as text, or the one line of its refusal: `programLines` of `report`.
+use board::Sort;
 use image::limits::Entry;
 use image::limits::LONGEST_IMAGE;
 use image::limits::MOST_LINES;
 use libc::STDIN_FILENO;
 use libc::STDOUT_FILENO;
+use report::book::Rest;
 use report::book::fill_rest;
 use report::book::first_line;
 use report::book::later_line;
@@ -16,13 +18,13 @@ ghost use mathlib.Core.Path.{_≡_};
 ghost use Prim.Native.Nat.{_+_, _*_, _≤_, _<_};
 ghost use lib.ListN.{length};
 ghost use Rattle.board.specs.Limits.{mostLines};
-ghost use Rattle.board.specs.Book.{found as foundIn};
 ghost use Rattle.image.specs.Image.{longestImage};
+ghost use Rattle.report.specs.Book.{Filled};
 
-// One byte more than the longest good image has, and the entries of the most lines.
+// One byte more than the longest good image has, and the entries of the most lines in the longer book, that of the pins.
 const IMAGE_ROOM: usize = LONGEST_IMAGE + 1;
 
-const BOOK_ROOM: usize = 2 * MOST_LINES;
+const BOOK_ROOM: usize = 8 * MOST_LINES;
 
 // Room for an image.
 fn blank_image() -> [u8; IMAGE_ROOM]
@@ -31,9 +33,9 @@ fn blank_image() -> [u8; IMAGE_ROOM]
     [0u8; IMAGE_ROOM]
 }
 
-// Room for a book.
+// Room for either book.
 fn blank_book() -> [Entry; BOOK_ROOM]
-    ensures { λ r. ⌜ 2 * mostLines ≡ length r ⌝ }
+    ensures { λ r. ⌜ 8 * mostLines ≡ length r ⌝ }
 {
     [0; BOOK_ROOM]
 }
@@ -45,16 +47,26 @@ fn write_out(out: &[u8], n: usize)
     io::write_all(STDOUT_FILENO, &out[..n]);
 }
 
-// Writes the lines after the first, in their order.
-fn write_rest(book: &[Entry], found: usize)
-    requires { ⌜ found ≡ foundIn (now book) ⌝ }
+// Writes the lines of a filled book, in their order.
+fn write_lines(img: &[u8], sort: Sort, book: &[Entry], rest: Rest)
+    requires { ⌜ Filled sort (now img) (now book) rest ⌝ }
 {
     let mut k = 0;
     while k <= book.len() {
         let mut out = blank_line();
-        let n = later_line(book, found, k, &mut out);
+        let n = later_line(img, sort, book, rest, k, &mut out);
         write_out(&out, n);
         k += 1;
+    }
+}
+
+// Writes what follows the first line for one book: nothing where the image is refused.
+fn write_book(img: &[u8], sort: Sort) {
+    let mut room = blank_book();
+    let rest = fill_rest(img, sort, &mut room);
+    if 0 < rest.lines {
+        let entries = rest.lines - 1;
+        write_lines(img, sort, &room[..entries], rest);
     }
 }
 
@@ -63,12 +75,8 @@ fn write_text(img: &[u8]) {
     let mut out = blank_line();
     let n = first_line(img, &mut out);
     write_out(&out, n);
-    let mut room = blank_book();
-    let rest = fill_rest(img, &mut room);
-    if 0 < rest.lines {
-        let entries = rest.lines - 1;
-        write_rest(&room[..entries], rest.found);
-    }
+    write_book(img, Sort::Lines);
+    write_book(img, Sort::Pins);
 }
 
 // Reads standard input to its end, and leaves the last 12 bytes of all that came at the front.

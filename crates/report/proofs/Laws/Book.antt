@@ -1,59 +1,78 @@
--- The lines after the first of the text that the program `book` writes: each by its place, and how many there are.
-use mathlib.Core.Path.{_≡_, refl, ap, _∙_}
+-- What follows the first line of the text that the program `book` writes, for either book: each line by its place, how many there
+-- are, and how many pins a board's lines use.
+use mathlib.Core.Path.{_≡_, refl, sym, ap, _∙_}
 use mathlib.Core.Option.{none, some}
 use mathlib.Core.List.{List, [], _∷_, _++_}
-use Prim.Native.Nat.{ℕ, zero, suc, _+_, _-_, _*_, _<_}
+use Prim.Native.Nat.{ℕ, zero, suc, _+_, _-_, _*_, _≤_, _<_}
+use native.Mathlib.Numerals.{add-one}
 use native.Mathlib.Omega.{arith}
-use lib.ListN.{length, getD, length-append}
-use lib.Seq.{take-at, getD-at}
-use borrow.Author.Tests.{eq-eqb}
-use Rattle.board.specs.Book.{found}
+use lib.ListN.{length, getD, drop, length-append}
+use lib.Seq.{take-at, getD-at, drop-cons, drop-length}
+use Rattle.board.specs.Limits.{mostLines}
+use Rattle.board.specs.Board.{Board, recordOf}
+use Rattle.board.specs.Book.{entriesALine, found}
+use Rattle.board.specs.declared.Sort.{Sort}
+use Rattle.board.specs.declared.Sort.the-variants.{Lines, Pins}
 use Rattle.board.proofs.Lists.{build-length}
-use Rattle.image.specs.Image.{lineCount}
+use Rattle.image.specs.Image.{lineCount, recordPlace, boardOf}
 use Rattle.image.specs.Refusals.{imageRefusals, firstRefusal, Accepted}
 use Rattle.image.specs.declared.Refusal.{Refusal}
-use Rattle.image.proofs.Laws.Answer.{after-none}
-use Rattle.find.specs.Book.{badBook, bookRefusals, bookOf}
-use Rattle.report.specs.Book.{entryLine, entryLines, totalLine, linesAfter, RestOf}
+use Rattle.image.proofs.Laws.Fine.{passed, four-pins, field-good}
+use Rattle.image.proofs.Laws.Line.{pin-count}
+use Rattle.find.specs.Book.{bookOf}
+use Rattle.report.specs.Book.{totalText, pinsOf, faultsOf, entryLine, entryLines, bookLines, linesAfter, Filled, RestOf}
 
-lines-length : (j : ℕ) (book : List ℕ) → length (entryLines j book) ≡ length book
-lines-length j [] = refl
-lines-length j (e ∷ es) = ap suc (lines-length (suc j) es)
+-- at most eight entries a line
+pub entries-few : (sort : Sort) (n : ℕ) → n ≤ mostLines → entriesALine sort * n ≤ 8 * mostLines
+entries-few Lines n few = omega arith
+entries-few Pins n few = omega arith
 
--- a line for each entry, and the total
-rest-length : (book : List ℕ) → length (linesAfter none book) ≡ length book + 1
-rest-length book = rw (length-append, lines-length 0 book)
+module _ (sort : Sort) where
+  lines-length : (b : Board) (j : ℕ) (book : List ℕ) → length (entryLines sort b j book) ≡ length book
+  lines-length b j [] = refl
+  lines-length b j (e ∷ es) = ap suc (lines-length b (suc j) es)
 
-pub entry-at : (j k : ℕ) (book : List ℕ) (more : List (List ℕ)) → k < length book → getD (entryLines j book ++ more) k [] ≡ entryLine (j + k) (getD book k 0)
-entry-at j k [] more l = absurd (omega arith)
-entry-at j zero (e ∷ es) more l = let same : j + 0 ≡ j = omega arith in rw same
-entry-at j (suc k) (e ∷ es) more l = let same : j + suc k ≡ suc j + k = omega arith in rw same (entry-at (suc j) k es more (omega arith))
+  line-at : (b : Board) (j k : ℕ) (book : List ℕ) (more : List (List ℕ)) → k < length book
+      → getD (entryLines sort b j book ++ more) k [] ≡ entryLine sort b (j + k) (getD book k 0)
+  line-at b j k [] more l = absurd (omega arith)
+  line-at b j zero (e ∷ es) more l = let same : j + 0 ≡ j = omega arith in rw same
+  line-at b j (suc k) (e ∷ es) more l = let same : j + suc k ≡ suc j + k = omega arith in rw same (line-at b (suc j) k es more (omega arith))
 
-pub total-at : (book : List ℕ) → getD (linesAfter none book) (length book) [] ≡ totalLine book
-total-at book = getD-at (entryLines 0 book) (totalLine book) [] [] (length book) (lines-length 0 book)
+  module _ (s : List ℕ) where
+    pub book-length : length (bookOf sort s) ≡ entriesALine sort * lineCount s
+    unfolding bookOf
+    book-length = build-length _ (entriesALine sort * lineCount s)
 
-book-length : (s : List ℕ) → length (bookOf s) ≡ 2 * lineCount s
-unfolding bookOf
-book-length s = build-length _ (2 * lineCount s)
+    pub entry-at : (k : ℕ) → k < length (bookOf sort s) → getD (bookLines sort s) k [] ≡ entryLine sort (boardOf s) k (getD (bookOf sort s) k 0)
+    entry-at k l = let same : 0 + k ≡ k = omega arith in line-at (boardOf s) 0 k (bookOf sort s) _ l ∙ rw same
 
--- a book of two numbers a line is not refused
-pub book-taken : (s old : List ℕ) → Accepted s → length old ≡ 2 * lineCount s → firstRefusal (bookRefusals s old) ≡ none
-unfolding bookRefusals
-book-taken s old ok e = after-none (imageRefusals s) (badBook s (length old)) ok ∙ rw (eq-eqb _ _ e)
+    pub total-at : getD (bookLines sort s) (length (bookOf sort s)) [] ≡ totalText sort (found (bookOf sort s)) (faultsOf sort (boardOf s))
+    total-at = getD-at (entryLines sort (boardOf s) 0 (bookOf sort s)) _ [] [] (length (bookOf sort s)) (lines-length (boardOf s) 0 (bookOf sort s))
 
--- no line follows a refusal
-pub nothing-after : (s room : List ℕ) {r : Refusal} → firstRefusal (imageRefusals s) ≡ some r → RestOf s room (record { lines = 0; found = 0 })
-nothing-after s room e = record { many = rw e; inside = omega arith; book = λ l. absurd (omega arith); counted = λ l. absurd (omega arith) }
+    -- no line follows a refusal
+    pub nothing-after : (room : List ℕ) {r : Refusal} → firstRefusal (imageRefusals s) ≡ some r → RestOf sort s room (record { lines = 0; found = 0; faults = 0 })
+    nothing-after room e = record { many = rw e; inside = omega arith; filled = λ l. absurd (omega arith) }
 
--- and the whole book where there is none
-pub book-after : (s front more : List ℕ) (entries n : ℕ) → Accepted s → entries ≡ 2 * lineCount s → front ≡ bookOf s → n ≡ found (bookOf s)
-    → RestOf s (front ++ more) (record { lines = entries + 1; found = n })
-book-after s front more entries n ok e is count =
-    let long : length front ≡ entries = rw is (omega (arith, book-length s)) in
-    let same : entries + 1 - 1 ≡ entries = omega arith in
-    record {
-      many = rw ok (omega (arith, rest-length (bookOf s), book-length s));
-      inside = simp length-append (omega arith);
-      book = λ l. rw same (take-at front more entries long ∙ is);
-      counted = λ l. count;
-    }
+    -- and the whole book where there is none: a line for each entry, and the total
+    pub book-after : (front more : List ℕ) (entries n all : ℕ) → Accepted s → entries ≡ entriesALine sort * lineCount s → front ≡ bookOf sort s
+        → n ≡ found (bookOf sort s) → all ≡ faultsOf sort (boardOf s) → RestOf sort s (front ++ more) (record { lines = entries + 1; found = n; faults = all })
+    book-after front more entries n all ok e is count every =
+        let long : length front ≡ entries = rw is (book-length ∙ sym e) in
+        let same : entries + 1 - 1 ≡ entries = omega arith in
+        record {
+          many = rw (ok, length-append, lines-length (boardOf s) 0 (bookOf sort s), book-length, e);
+          inside = simp length-append (omega arith);
+          filled = λ l. record { ok = ok; is = rw same (take-at front more entries long ∙ is); counted = count; of-all = every };
+        }
+
+-- no line uses more than four pins
+pub four-used : (s : List ℕ) → Accepted s → (i : ℕ) → i < lineCount s → length (recordOf (boardOf s) i .pins) ≤ 4
+four-used s ok i l = rw (← (pin-count s i l)) (four-pins s (recordPlace s i) i _ (λ f m. field-good s (passed s ok) i f l m))
+
+-- the pins that are used by the lines from i on, one line more at a time
+module _ (b : Board) (i used : ℕ) (before : used + pinsOf (drop i (b .lines)) ≡ pinsOf (b .lines)) where
+  pub used-more : (n : ℕ) → i < length (b .lines) → n ≡ length (recordOf b i .pins) → used + n + pinsOf (drop (i + 1) (b .lines)) ≡ pinsOf (b .lines)
+  used-more n l is = rw (add-one i) (omega (arith, is, rw (drop-cons (b .lines) i (record { kind = 0; pins = [] }) l) at before))
+
+  pub used-all : i ≡ length (b .lines) → used ≡ pinsOf (b .lines)
+  used-all e = omega (arith, rw (e, drop-length (b .lines)) at before)
