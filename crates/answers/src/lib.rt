@@ -1,12 +1,13 @@
 // Each call, with its answer's line, made in a small buffer by a function whose contract says which bytes.
 use board::Fault;
+use board::Sort;
 use image::limits::Entry;
 use report::lines::answer_line;
 use report::lines::counted_line;
 use report::lines::found_line;
 use report::lines::judged_line;
 ghost use mathlib.Core.List.{[], _∷_};
-ghost use Prim.Native.Nat.{_≤_};
+ghost use Prim.Native.Nat.{_+_, _≤_};
 ghost use lib.ListN.{length};
 ghost use Rattle.image.specs.Check.{checkPromise};
 ghost use Rattle.rows.specs.Rows.{rowsPromise};
@@ -15,7 +16,7 @@ ghost use Rattle.rows.specs.Refresh.{refreshPromise};
 ghost use Rattle.five.specs.Five.{fivePromise};
 ghost use Rattle.find.specs.Find.{findPromise};
 ghost use Rattle.find.specs.Book.{bookPromise};
-ghost use Rattle.alter.specs.Alter.{alterPromise};
+ghost use Rattle.alter.specs.Alter.{both, alterPromise};
 ghost use Rattle.text.specs.Text.{lineRoom};
 ghost use Rattle.report.specs.Lines.{checkedLine, filledLine, judgedLine, foundLine, drivenLine, countedLine};
 ghost use Rattle.answers.specs.Said.{Said};
@@ -104,29 +105,33 @@ pub fn find_answer(img: &[u8], fault: Fault, out: &mut [u8]) -> usize
     found_line(find::said::found(find::find(img, fault)), out)
 }
 
-// Book, into the lent book.
-pub fn book_answer(img: &[u8], book: &mut [Entry], out: &mut [u8]) -> usize
+// Book, or the pin book, into the lent book.
+pub fn book_answer(img: &[u8], sort: Sort, book: &mut [Entry], out: &mut [u8]) -> usize
     requires { ⌜ lineRoom ≤ length (now out) ⌝ }
-    ensures { λ n. ⌜ Said (bookPromise (now (img .entry)) (now (book .entry))) (now (book .exit) ∷ []) (countedLine (length (now (book .entry)))) n (now (out .exit)) ⌝ }
+    ensures { λ n. ⌜ Said (bookPromise sort (now (img .entry)) (now (book .entry))) (now (book .exit) ∷ []) (countedLine (length (now (book .entry)))) n (now (out .exit)) ⌝ }
 {
     let all = book.len();
-    counted_line(find::said::counted(find::book(img, book)), all, out)
+    match sort {
+        Sort::Lines => counted_line(find::said::counted(find::book(img, book)), all, out),
+        Sort::Pins => counted_line(find::said::counted(find::pin_book(img, book)), all, out),
+    }
 }
 
-// Alter, on the image and the lent book.
+// Alter, on the image and the two lent books.
 pub fn alter_answer(
     img: &mut [u8],
     book: &mut [Entry],
+    pins: &mut [Entry],
     line: usize,
     record: [u8; 10],
     out: &mut [u8],
 ) -> usize
     requires { ⌜ lineRoom ≤ length (now out) ⌝ }
-    ensures { λ n. ⌜ Said (alterPromise (now (img .entry)) (now (book .entry)) line «record») (now (img .exit) ∷ now (book .exit) ∷ []) (countedLine (length (now (book .entry)))) n (now (out .exit)) ⌝ }
+    ensures { λ n. ⌜ Said (alterPromise (now (img .entry)) (both (now (book .entry)) (now (pins .entry))) line «record») (now (img .exit) ∷ now (book .exit) ∷ now (pins .exit) ∷ []) (countedLine (length (now (book .entry)) + length (now (pins .entry)))) n (now (out .exit)) ⌝ }
 {
-    let all = book.len();
+    let all = book.len() + pins.len();
     counted_line(
-        find::said::counted(alter::alter(img, book, line, record)),
+        find::said::counted(alter::alter(img, book, pins, line, record)),
         all,
         out,
     )
