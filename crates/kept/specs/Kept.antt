@@ -8,8 +8,9 @@ use Rattle.board.specs.Lists.{build}
 use Rattle.words.specs.Hex.{hexBytes}
 use Rattle.kept.specs.declared.Held.{Held}
 use Rattle.kept.specs.declared.lent_rows.Lengths.{Lengths}
+use Rattle.kept.specs.declared.lent_book.BookLengths.{BookLengths}
 
--- the longest image, row and book that the console keeps
+-- the longest image, row, line book and pin book that the console keeps
 abbrev pub mostImage : ℕ
 mostImage = 65536
 
@@ -18,6 +19,9 @@ mostRow = 8192
 
 abbrev pub mostBook : ℕ
 mostBook = 16384
+
+abbrev pub mostPins : ℕ
+mostPins = 65536
 
 -- the byte of a fresh row, and the number of a fresh book
 abbrev pub freshByte : ℕ
@@ -35,23 +39,28 @@ pub record RowsWithin (r : Lengths) : Type 0 where
   pub good : r .good ≤ mostRow
   pub faulty : r .faulty ≤ mostRow
 
+pub record BooksWithin (b : BookLengths) : Type 0 where
+  pub lines : b .lines ≤ mostBook
+  pub pins : b .pins ≤ mostPins
+
 pub record Within (h : Held) : Type 0 where
   pub image : h .image ≤ mostImage
   pub rows : RowsWithin (h .rows)
-  pub book : h .book ≤ mostBook
+  pub books : BooksWithin (h .books)
 
 -- the arrays are as long as they can be lent
-pub record Arrays (img good faulty book : List ℕ) : Type 0 where
+pub record Arrays (img good faulty book pins : List ℕ) : Type 0 where
   pub image : length img ≡ mostImage
   pub good-row : length good ≡ mostRow
   pub faulty-row : length faulty ≡ mostRow
-  pub book-is : length book ≡ mostBook
+  pub line-book : length book ≡ mostBook
+  pub pin-book : length pins ≡ mostPins
 
--- lend book: a fresh book of that length at the front of the array, and nothing changed where it is too long
+-- lend book and lend pins: a fresh book of that length at the front of the array, and nothing changed where it is too long
 pub record LendBookLeaves (n old : ℕ) (book : List ℕ) (r : ℕ) (after : List ℕ) : Type 0 where
-  pub within : old ≤ mostBook → r ≤ mostBook
-  pub lends : n ≤ mostBook → (r ≡ n) × (after ≡ alike freshNumber n ++ drop n book)
-  pub refuses : mostBook < n → (r ≡ old) × (after ≡ book)
+  pub within : old ≤ length book → r ≤ length book
+  pub lends : n ≤ length book → (r ≡ n) × (after ≡ alike freshNumber n ++ drop n book)
+  pub refuses : length book < n → (r ≡ old) × (after ≡ book)
 
 -- lend rows: the same of two rows
 pub record LendRowsLeaves (g f : ℕ) (old : Lengths) (good faulty : List ℕ) (r : Lengths) (goodAfter faultyAfter : List ℕ) : Type 0 where

@@ -1,5 +1,6 @@
 // A new image, and what is lent anew for it.
 use crate::Held;
+use crate::lent_book::BookLengths;
 use crate::lent_book::freshen_book;
 use crate::lent_rows::Lengths;
 use crate::lent_rows::freshen_row;
@@ -44,16 +45,25 @@ fn write_check(img: &[u8]) {
     write_out(&out, n);
 }
 
-// Lends fresh rows and a fresh book for the image of n bytes, and answers as Check does.
-fn take_image(n: usize, img: &[u8], good: &mut [u8], faulty: &mut [u8], book: &mut [Entry]) -> Held
-    requires { ⌜ (n ≤ mostImage) × Arrays (now img) (now good) (now faulty) (now book) ⌝ }
+// Lends fresh rows and fresh books for the image of n bytes, and answers as Check does.
+fn take_image(
+    n: usize,
+    img: &[u8],
+    good: &mut [u8],
+    faulty: &mut [u8],
+    book: &mut [Entry],
+    pins: &mut [Entry],
+) -> Held
+    requires { ⌜ (n ≤ mostImage) × Arrays (now img) (now good) (now faulty) (now book) (now pins) ⌝ }
     ensures { λ r. ⌜ Within r ⌝ }
 {
     let lines = lines_of(&img[..n]);
     let entries = 2 * lines;
+    let pin_entries = 8 * lines;
     freshen_row(&mut good[..lines]);
     freshen_row(&mut faulty[..lines]);
     freshen_book(&mut book[..entries]);
+    freshen_book(&mut pins[..pin_entries]);
     write_check(&img[..n]);
     Held {
         image: n,
@@ -61,7 +71,10 @@ fn take_image(n: usize, img: &[u8], good: &mut [u8], faulty: &mut [u8], book: &m
             good: lines,
             faulty: lines,
         },
-        book: entries,
+        books: BookLengths {
+            lines: entries,
+            pins: pin_entries,
+        },
     }
 }
 
@@ -92,9 +105,10 @@ pub fn anew(
     good: &mut [u8],
     faulty: &mut [u8],
     book: &mut [Entry],
+    pins: &mut [Entry],
     held: Held,
 ) -> Held
-    requires { ⌜ Arrays (now img) (now good) (now faulty) (now book) × Within held ⌝ }
+    requires { ⌜ Arrays (now img) (now good) (now faulty) (now book) (now pins) × Within held ⌝ }
     ensures { λ r. ⌜ Within r ⌝ }
 {
     match asked {
@@ -105,7 +119,7 @@ pub fn anew(
                 return held;
             }
             let n = unpack(word, img);
-            take_image(n, img, good, faulty, book)
+            take_image(n, img, good, faulty, book, pins)
         }
         Anew::Open { from } => {
             let n = read_image(tail(line, from), img);
@@ -113,7 +127,7 @@ pub fn anew(
                 write_plain(b"? cannot read\n");
                 return held;
             }
-            take_image(n, img, good, faulty, book)
+            take_image(n, img, good, faulty, book, pins)
         }
     }
 }

@@ -1,14 +1,22 @@
-// The book.
+// The line book and the pin book.
 use image::limits::Entry;
 use ports::write::write_plain;
 ghost use mathlib.Core.Path.{_≡_};
 ghost use lib.ListN.{length};
-ghost use Rattle.kept.specs.Kept.{mostBook, freshNumber, alike, LendBookLeaves};
+ghost use Rattle.kept.specs.Kept.{freshNumber, alike, LendBookLeaves};
 
-// The longest book that the console keeps, and the number of a fresh one.
+// The longest line book and pin book that the console keeps, and the number of a fresh one.
 pub const MOST_BOOK: usize = 16384;
 
+pub const MOST_PINS: usize = 65536;
+
 const FRESH_NUMBER: Entry = 99;
+
+// How much is lent of each.
+pub struct BookLengths {
+    pub lines: usize,
+    pub pins: usize,
+}
 
 // Makes a book fresh.
 pub fn freshen_book(book: &mut [Entry])
@@ -21,13 +29,12 @@ pub fn freshen_book(book: &mut [Entry])
     }
 }
 
-// lend book: a fresh book of that length. Gives its length, which is the old one where it is too long.
+// lend book and lend pins: a fresh book of that length in an array. Gives its length, which is the old one where it is too long.
 pub fn lend_book(numbers: u64, book: &mut [Entry], old: usize) -> usize
-    requires { ⌜ length (now book) ≡ mostBook ⌝ }
     ensures { λ r. ⌜ LendBookLeaves numbers old (now (book .entry)) r (now (book .exit)) ⌝ }
 {
     let n = numbers as usize;
-    if MOST_BOOK < n {
+    if book.len() < n {
         write_plain(b"? too many\n");
         return old;
     }

@@ -3,11 +3,12 @@ pub mod anew;
 pub mod lent_book;
 pub mod lent_rows;
 
+use lent_book::BookLengths;
 use lent_rows::Lengths;
 
-// How much is lent of the image, the rows and the book.
+// How much is lent of the image, the rows and the books.
 pub struct Held {
     pub image: usize,
     pub rows: Lengths,
-    pub book: usize,
+    pub books: BookLengths,
 }

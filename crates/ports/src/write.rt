@@ -60,9 +60,9 @@ fn write_few_digits(bytes: &[u8])
     write_out(&out, n);
 }
 
-// Writes the word entries, and the numbers of a book, each behind a space.
-pub fn write_entries(book: &[Entry]) {
-    write_plain(b"entries");
+// Writes a word, and the numbers of a book, each behind a space.
+pub fn write_entries(word: &[u8], book: &[Entry]) {
+    write_plain(word);
     write_numbers(book);
     write_plain(b"\n");
 }
