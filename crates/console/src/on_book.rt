@@ -1,23 +1,21 @@
-// The commands that use the book.
-use answers::alter_answer;
+// The commands that use one book.
 use answers::book_answer;
+use board::Sort;
 use image::limits::Entry;
 use image::limits::WIDEST;
-use image::numbers::tail;
+use kept::lent_book::BookLengths;
 use kept::lent_book::lend_book;
 use ports::write::write_entries;
 use ports::write::write_out;
 use ports::write::write_plain;
 use text::line::blank_line;
 use words::command::OnBook;
-use words::hex::bytes_of;
-use words::hex::unpack;
 ghost use mathlib.Core.Path.{_≡_};
 ghost use Prim.Native.Nat.{_≤_};
 ghost use lib.ListN.{length};
-ghost use Rattle.kept.specs.Kept.{mostBook};
+ghost use Rattle.kept.specs.Kept.{mostBook, mostPins, BooksWithin};
 
-// put entry: the entry at a place becomes a number.
+// put entry and put pin: the entry at a place becomes a number.
 fn put_entry(place: u64, number: u64, book: &mut [Entry]) {
     let k = place as usize;
     if book.len() <= k {
@@ -32,53 +30,64 @@ fn put_entry(place: u64, number: u64, book: &mut [Entry]) {
     write_plain(b"lent\n");
 }
 
-// Room for a record.
-fn blank_record() -> [u8; 10]
-    ensures { λ r. ⌜ 10 ≡ length r ⌝ }
-{
-    [0u8; 10]
+// Writes Book's answer, or the pin book's.
+fn write_book(img: &[u8], sort: Sort, book: &mut [Entry]) {
+    let mut out = blank_line();
+    let n = book_answer(img, sort, book, &mut out);
+    write_out(&out, n);
 }
 
-// alter: the HEX word is the record.
-fn write_alter(word: &[u8], line: u64, img: &mut [u8], book: &mut [Entry]) {
-    if bytes_of(word) != 10 {
-        write_plain(b"? a record is 10 bytes\n");
-        return;
+// Writes the numbers of a book behind its word.
+fn write_numbers(sort: Sort, book: &[Entry]) {
+    match sort {
+        Sort::Lines => write_entries(b"entries", book),
+        Sort::Pins => write_entries(b"pins", book),
     }
-    let mut record = blank_record();
-    unpack(word, &mut record);
-    let mut out = blank_line();
-    let n = alter_answer(img, book, line as usize, record, &mut out);
-    write_out(&out, n);
-}
-
-// Writes Book's answer.
-fn write_book(img: &[u8], book: &mut [Entry]) {
-    let mut out = blank_line();
-    let n = book_answer(img, book, &mut out);
-    write_out(&out, n);
 }
 
 // Answers a command that uses the lent book as it is.
-fn use_book(asked: OnBook, line: &[u8], img: &mut [u8], book: &mut [Entry]) {
+fn use_book(asked: OnBook, img: &[u8], sort: Sort, book: &mut [Entry]) {
     match asked {
         OnBook::Put { place, number } => put_entry(place, number, book),
-        OnBook::Book => write_book(img, book),
-        OnBook::Alter { line: gate, from } => write_alter(tail(line, from), gate, img, book),
-        _ => write_entries(book),
+        OnBook::Book => write_book(img, sort, book),
+        _ => write_numbers(sort, book),
     }
 }
 
 // Answers a command, and gives how much is lent afterwards of the book, which is an array here.
-pub fn on_book(asked: OnBook, line: &[u8], img: &mut [u8], book: &mut [Entry], lent: usize) -> usize
-    requires { ⌜ (length (now book) ≡ mostBook) × (lent ≤ mostBook) ⌝ }
-    ensures { λ r. ⌜ r ≤ mostBook ⌝ }
+fn on_one(asked: OnBook, img: &[u8], sort: Sort, book: &mut [Entry], lent: usize) -> usize
+    requires { ⌜ lent ≤ length (now book) ⌝ }
+    ensures { λ r. ⌜ r ≤ length (now (book .entry)) ⌝ }
 {
     match asked {
         OnBook::Lend { numbers } => lend_book(numbers, book, lent),
         _ => {
-            use_book(asked, line, img, &mut book[..lent]);
+            use_book(asked, img, sort, &mut book[..lent]);
             lent
         }
+    }
+}
+
+// Answers a command on the book of a sort, and gives how much is lent afterwards of the two, which are arrays here.
+pub fn on_book(
+    asked: OnBook,
+    img: &[u8],
+    sort: Sort,
+    book: &mut [Entry],
+    pins: &mut [Entry],
+    lent: BookLengths,
+) -> BookLengths
+    requires { ⌜ (length (now book) ≡ mostBook) × (length (now pins) ≡ mostPins) × BooksWithin lent ⌝ }
+    ensures { λ r. ⌜ BooksWithin r ⌝ }
+{
+    match sort {
+        Sort::Lines => BookLengths {
+            lines: on_one(asked, img, sort, book, lent.lines),
+            pins: lent.pins,
+        },
+        Sort::Pins => BookLengths {
+            lines: lent.lines,
+            pins: on_one(asked, img, sort, pins, lent.pins),
+        },
     }
 }
