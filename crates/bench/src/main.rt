@@ -4,7 +4,9 @@ mod obey;
 use crate::obey::obey;
 use image::limits::Entry;
 use kept::Held;
+use kept::lent_book::BookLengths;
 use kept::lent_book::MOST_BOOK;
+use kept::lent_book::MOST_PINS;
 use kept::lent_rows::Lengths;
 use kept::lent_rows::MOST_ROW;
 use ports::input::Place;
@@ -37,6 +39,13 @@ fn blank_book() -> [Entry; MOST_BOOK]
     [0; MOST_BOOK]
 }
 
+// Room for a pin book.
+fn blank_pins() -> [Entry; MOST_PINS]
+    ensures { λ r. ⌜ 65536 ≡ length r ⌝ }
+{
+    [0; MOST_PINS]
+}
+
 // Where the console stands between two steps; it is not open at the end of the input.
 struct State {
     at: Place,
@@ -62,15 +71,16 @@ fn turn(
     good: &mut [u8],
     faulty: &mut [u8],
     book: &mut [Entry],
+    pins: &mut [Entry],
     at: Place,
     held: Held,
 ) -> State
-    requires { ⌜ (length (now buf) ≡ roomy) × Arrays (now img) (now good) (now faulty) (now book) × Inside roomy at × Within held ⌝ }
+    requires { ⌜ (length (now buf) ≡ roomy) × Arrays (now img) (now good) (now faulty) (now book) (now pins) × Inside roomy at × Within held ⌝ }
     ensures { λ r. ⌜ Inside roomy (r .at) × Within (r .held) ⌝ }
 {
     match next_step(buf, at) {
         Step::Line { from, to, next } => {
-            let kept = obey(&buf[from..to], img, good, faulty, book, held);
+            let kept = obey(&buf[from..to], img, good, faulty, book, pins, held);
             onward(next, kept)
         }
         Step::Long(next) => {
@@ -80,7 +90,7 @@ fn turn(
         Step::More(next) => onward(next, held),
         Step::Last { from, to } => {
             if from < to {
-                obey(&buf[from..to], img, good, faulty, book, held);
+                obey(&buf[from..to], img, good, faulty, book, pins, held);
             }
             State {
                 at,
@@ -92,8 +102,15 @@ fn turn(
 }
 
 // Takes steps until the end of the input.
-fn talk(buf: &mut [u8], img: &mut [u8], good: &mut [u8], faulty: &mut [u8], book: &mut [Entry])
-    requires { ⌜ (length (now buf) ≡ roomy) × Arrays (now img) (now good) (now faulty) (now book) ⌝ }
+fn talk(
+    buf: &mut [u8],
+    img: &mut [u8],
+    good: &mut [u8],
+    faulty: &mut [u8],
+    book: &mut [Entry],
+    pins: &mut [Entry],
+)
+    requires { ⌜ (length (now buf) ≡ roomy) × Arrays (now img) (now good) (now faulty) (now book) (now pins) ⌝ }
 {
     let mut at = Place {
         start: 0,
@@ -104,11 +121,11 @@ fn talk(buf: &mut [u8], img: &mut [u8], good: &mut [u8], faulty: &mut [u8], book
     let mut held = Held {
         image: 0,
         rows: Lengths { good: 0, faulty: 0 },
-        book: 0,
+        books: BookLengths { lines: 0, pins: 0 },
     };
     let mut turns = u64::MAX;
     while 0 < turns {
-        let next = turn(buf, img, good, faulty, book, at, held);
+        let next = turn(buf, img, good, faulty, book, pins, at, held);
         if !next.open {
             return;
         }
@@ -125,5 +142,6 @@ fn main() {
     let mut good = blank_row();
     let mut faulty = blank_row();
     let mut book = blank_book();
-    talk(&mut buf, &mut img, &mut good, &mut faulty, &mut book);
+    let mut pins = blank_pins();
+    talk(&mut buf, &mut img, &mut good, &mut faulty, &mut book, &mut pins);
 }

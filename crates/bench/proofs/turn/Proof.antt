@@ -10,7 +10,7 @@ use Rattle.bench.proofs.turn.Tie as tie
 
 -- the buffer keeps its length
 long : (c : tie.After-next-step) → length (c .next-step .last .0) ≡ roomy
-long c = omega (arith, c .next-step .kept .0, c .before .before .before .before .before .before .before .pre .0)
+long c = omega (arith, c .next-step .kept .0, c .before .before .before .before .before .before .before .before .pre .0)
 
 -- the line that was found, and the next place
 line : (c : tie.After-from) → (c .from .given .0 .0 ≤ c .from .given .0 .1 .0) × (c .from .given .0 .1 .0 ≤ roomy) × Inside roomy (c .from .given .0 .1 .1 .0)
@@ -33,34 +33,42 @@ part-obey-end-2 c = let told = c .before .before .before in omega (arith, last t
 
 same-length : tie.Need-same-length
 same-length c =
-    let obeyed = c .before .before .before .before .before .before .before .before .before in
-    let stepped = obeyed .before .before .before .before .before .before .before .before .before .before .before .before in
+    let obeyed = c .before .before .before .before .before .before .before .before .before .before .before in
+    let stepped = obeyed .before .before .before .before .before .before .before .before .before .before .before .before .before in
     omega (arith, stepped .next-step .kept .0)
 
 returns : tie.Need-returns
 returns c =
-    let obeyed = c .before .before .before .before .before .before .before .before .before in
-    rw (c .onward .ensures .0, c .onward .ensures .1) (line (obeyed .before .before .before .before .before .before .before .before) .2, obeyed .obey .ensures)
+    let obeyed = c .before .before .before .before .before .before .before .before .before .before .before in
+    rw (c .onward .ensures .0, c .onward .ensures .1) (line (obeyed .before .before .before .before .before .before .before .before .before) .2, obeyed .obey .ensures)
 
 returns-2 : tie.Need-returns-2
 returns-2 c =
     let told = c .before .before .before .before in
     let stepped = told .before .before .before .before in
     rw (c .onward2 .ensures .0, c .onward2 .ensures .1)
-    (rw (told .next .given .1) at (stepped .next-step .ensures), stepped .before .before .before .before .before .before .before .pre .3)
+    (rw (told .next .given .1) at (stepped .next-step .ensures), stepped .before .before .before .before .before .before .before .before .pre .3)
 
 returns-3 : tie.Need-returns-3
 returns-3 c =
     let told = c .before .before in
     let stepped = told .before .before .before .before in
     rw (c .onward3 .ensures .0, c .onward3 .ensures .1)
-    (rw (told .next2 .given .1) at (stepped .next-step .ensures), stepped .before .before .before .before .before .before .before .pre .3)
+    (rw (told .next2 .given .1) at (stepped .next-step .ensures), stepped .before .before .before .before .before .before .before .before .pre .3)
+
+returns-4 : tie.Need-returns-4
+returns-4 c =
+    let obeyed = c .before .before .before .before .before .before .before .before .before .before in
+    let stepped = obeyed .before .before .before .before .before .before .before .before .before .before .before .before .before .before in
+    let start = stepped .before .before .before .before .before .before .before .before in
+    (start .pre .2, start .pre .3)
 
 pub turn-spec : {M : Type 1} → statement M
 turn-spec =
     tie.close
     (tie.spec (λ c κs. search needs) (λ c. search needs) sub-obey part-obey-start part-obey-end (λ c κs. search needs) (λ c κs. search needs)
-    (λ c. search needs) (λ c. search needs) (λ c κs. search needs) (λ c κs. search needs) (λ c. search needs) (λ c κs. search needs) (λ c. search needs)
-    (λ c. search needs) (λ c. search needs) part-obey-end-2 (λ c κs. search needs) same-length (λ c. search needs) (λ c. search needs) (λ c. search needs)
-    (λ c. search needs) returns (λ c. search needs) returns-2 (λ c. search needs) returns-3 (λ c. search needs) (λ c. search needs) (λ c. search needs)
-    (λ c. search needs) (λ c. search needs) (λ c. search needs) (λ c. search needs) (λ c. search needs))
+    (λ c. search needs) (λ c. search needs) (λ c κs. search needs) (λ c κs. search needs) (λ c. search needs) (λ c κs. search needs)
+    (λ c. search needs) (λ c. search needs) (λ c. search needs) part-obey-end-2 (λ c κs. search needs) same-length (λ c. search needs)
+    (λ c. search needs) (λ c. search needs) (λ c. search needs) (λ c. search needs) returns (λ c. search needs) returns-2 (λ c. search needs)
+    returns-3 (λ c. search needs) (λ c. search needs) (λ c. search needs) (λ c. search needs) (λ c. search needs) (λ c. search needs) returns-4
+    (λ c. search needs) (λ c. search needs))
