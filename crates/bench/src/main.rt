@@ -143,5 +143,12 @@ fn main() {
     let mut faulty = blank_row();
     let mut book = blank_book();
     let mut pins = blank_pins();
-    talk(&mut buf, &mut img, &mut good, &mut faulty, &mut book, &mut pins);
+    talk(
+        &mut buf,
+        &mut img,
+        &mut good,
+        &mut faulty,
+        &mut book,
+        &mut pins,
+    );
 }

@@ -110,9 +110,17 @@ fn fault_line(c: Condition, e: Entry, out: &mut [u8]) -> usize
         }
         Fault::Pin { line, pin, stuck } => {
             if e == NONE {
-                return spell(b"#.#/# none\n", &[line as u64, pin as u64, stuck as u64], out);
+                return spell(
+                    b"#.#/# none\n",
+                    &[line as u64, pin as u64, stuck as u64],
+                    out,
+                );
             }
-            spell(b"#.#/# #\n", &[line as u64, pin as u64, stuck as u64, e as u64], out)
+            spell(
+                b"#.#/# #\n",
+                &[line as u64, pin as u64, stuck as u64, e as u64],
+                out,
+            )
         }
     }
 }
@@ -143,7 +151,14 @@ fn total_line(sort: Sort, rest: Rest, out: &mut [u8]) -> usize
 }
 
 // Line k of those that follow for a filled book: that of entry k, and after the entries the total.
-pub fn later_line(img: &[u8], sort: Sort, book: &[Entry], rest: Rest, k: usize, out: &mut [u8]) -> usize
+pub fn later_line(
+    img: &[u8],
+    sort: Sort,
+    book: &[Entry],
+    rest: Rest,
+    k: usize,
+    out: &mut [u8],
+) -> usize
     requires { ⌜ Filled sort (now img) (now book) rest × (k ≤ length (now book)) × (lineRoom ≤ length (now out)) ⌝ }
     ensures { λ r. ⌜ Written r (now (out .exit)) (getD (bookLines sort (now (img .entry))) k []) ⌝ }
 {
