@@ -2,7 +2,7 @@
 use console::help::write_help;
 use console::help::write_reason;
 use console::on_book::on_book;
-use console::on_books::write_alter;
+use console::on_both::write_alter;
 use console::on_image::on_image;
 use console::on_rows::on_rows;
 use image::limits::Entry;
