@@ -1,16 +1,17 @@
 // The value of one line, good or faulty: the fault is a value, so that there is one way to work a line out.
 use board::Condition;
+use board::held_pin;
 use board::stuck_line;
-use board::stuck_pin;
+use board::stuck_of;
 use image::numbers::byte;
 use image::numbers::word;
 use image::pattern::bit_of;
 ghost use mathlib.Core.Path.{_≡_};
 ghost use mathlib.Core.List.{_++_};
 ghost use Prim.Native.Nat.{_+_, _*_, _^_, _<_};
-ghost use lib.ListN.{getD};
+ghost use lib.ListN.{getD, set};
 ghost use Rattle.board.specs.Lists.{bit, ones};
-ghost use Rattle.board.specs.Gate.{asks, faulty, stuck as stuckAt, heldPins};
+ghost use Rattle.board.specs.Gate.{asks, faulty, stuck as stuckAt};
 ghost use Rattle.image.specs.Bytes.{byteAt};
 ghost use Rattle.image.specs.Inner.{pinsAt, lineAt};
 
@@ -35,46 +36,39 @@ fn value_at(before: &[u8], part: &[u8], k: usize) -> usize
     byte(part, k - before.len())
 }
 
-// What line `line`'s gate reads on pin j of its record at a place.
-fn pin_value(
-    img: &[u8],
-    at: usize,
-    j: usize,
-    line: usize,
-    condition: Condition,
-    before: &[u8],
-    part: &[u8],
-) -> usize
-    requires { ⌜ (at < 2 ^ 63 + 2 ^ 32) × (j < 256) × (j < byteAt (now img) (at + 1)) × (stuckAt condition < 2) ⌝ }
-    ensures { λ r. ⌜ (r ≡ getD (heldPins (λ s v. s) condition line (pinsAt (now (img .entry)) at (now (before .entry) ++ now (part .entry)))) j 0) × (r < 256) ⌝ }
+// What stands in the row on pin j of the record at a place.
+fn pin_value(img: &[u8], at: usize, j: usize, before: &[u8], part: &[u8]) -> usize
+    requires { ⌜ (at < 2 ^ 63 + 2 ^ 32) × (j < 256) × (j < byteAt (now img) (at + 1)) ⌝ }
+    ensures { λ r. ⌜ (r ≡ getD (pinsAt (now (img .entry)) at (now (before .entry) ++ now (part .entry))) j 0) × (r < 256) ⌝ }
 {
-    let held = stuck_pin(condition, line, j) as usize;
-    if held < 2 {
-        return held;
-    }
     value_at(before, part, word(img, at + 2 + 2 * j))
 }
 
-// How many of the pins of the record at a place read 1.
-fn ones_read(
-    img: &[u8],
-    at: usize,
-    line: usize,
-    condition: Condition,
-    before: &[u8],
-    part: &[u8],
-) -> usize
-    requires { ⌜ (at < 2 ^ 63 + 2 ^ 32) × (stuckAt condition < 2) ⌝ }
-    ensures { λ r. ⌜ r ≡ ones (heldPins (λ s v. s) condition line (pinsAt (now (img .entry)) at (now (before .entry) ++ now (part .entry)))) ⌝ }
+// How many of the pins of the record at a place have a 1 in the row.
+fn ones_read(img: &[u8], at: usize, before: &[u8], part: &[u8]) -> usize
+    requires { ⌜ at < 2 ^ 63 + 2 ^ 32 ⌝ }
+    ensures { λ r. ⌜ (r ≡ ones (pinsAt (now (img .entry)) at (now (before .entry) ++ now (part .entry)))) × (r < 65536) ⌝ }
 {
     let count = byte(img, at + 1);
     let mut sum = 0;
     let mut j = 0;
     while j < count {
-        sum += pin_value(img, at, j, line, condition, before, part);
+        sum += pin_value(img, at, j, before, part);
         j += 1;
     }
     sum
+}
+
+// How many of them read 1 where one pin, if there is such a pin, reads the stuck value.
+fn ones_with(img: &[u8], at: usize, held: usize, stuck: u8, before: &[u8], part: &[u8]) -> usize
+    requires { ⌜ at < 2 ^ 63 + 2 ^ 32 ⌝ }
+    ensures { λ r. ⌜ r ≡ ones (set (pinsAt (now (img .entry)) at (now (before .entry) ++ now (part .entry))) held stuck) ⌝ }
+{
+    let sum = ones_read(img, at, before, part);
+    if byte(img, at + 1) <= held {
+        return sum;
+    }
+    sum - pin_value(img, at, held, before, part) + stuck as usize
 }
 
 // The value of the line whose record stands at a place, under a pattern and a fault, from the row so far.
@@ -101,6 +95,13 @@ pub fn line_value(
     gate_value(
         kind,
         byte(img, at + 1),
-        ones_read(img, at, line, condition, before, part),
+        ones_with(
+            img,
+            at,
+            held_pin(condition, line),
+            stuck_of(condition),
+            before,
+            part,
+        ),
     )
 }

@@ -34,14 +34,14 @@ module _ (φ : Condition) (s : List ℕ) (p i : ℕ) (below : List ℕ) where
   absent-pin j w l = sym (List·getD-eq-default (readAt φ s p i below) w (rw read-length l))
 
   module _ (ok : Gated s p φ below) where
-    pub present-pin : (j w : ℕ) → j < byteAt s (p + 1)
-        → heldAt hold5 (stuckPin φ i j) (getD below (wordAt s (p + 2 + 2 * j)) 0) ≡ getD (readAt φ s p i below) j w
-    present-pin j w l =
-        sym (any-default (readAt φ s p i below) j w 0 (rw read-length l) ∙ pin-reads s p below hold5 φ i (ok .condition .held) j l)
-
     -- at most four pins are read
     pub few-read : length (readAt φ s p i below) ≤ 4
     few-read = omega (arith, read-length, ok .few, getD-below 5 mostPins tt (byteAt s p) 0 (lit< tt))
+
+    pub present-pin : (j w : ℕ) → j < byteAt s (p + 1)
+        → heldAt hold5 (stuckPin φ i j) (getD below (wordAt s (p + 2 + 2 * j)) 0) ≡ getD (readAt φ s p i below) j w
+    present-pin j w l =
+        sym (any-default (readAt φ s p i below) j w 0 (rw read-length l) ∙ pin-reads s p below hold5 φ i (ok .condition .held) (omega (arith, few-read, read-length)) j l)
 
 -- the record of each line of an accepted image has a known kind, and no more pins than the kind has
 pub record-good : (s : List ℕ) → Accepted s → (i : ℕ) → i < lineCount s →
