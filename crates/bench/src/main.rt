@@ -5,46 +5,19 @@ use crate::obey::obey;
 use image::limits::Entry;
 use kept::Held;
 use kept::lent_book::BookLengths;
-use kept::lent_book::MOST_BOOK;
-use kept::lent_book::MOST_PINS;
+use kept::lent_book::blank_book;
+use kept::lent_book::blank_pins;
 use kept::lent_rows::Lengths;
-use kept::lent_rows::MOST_ROW;
+use kept::lent_rows::blank_row;
 use ports::input::Place;
 use ports::input::Step;
+use ports::input::blank_input;
 use ports::input::next_step;
 use ports::write::write_plain;
 ghost use mathlib.Core.Path.{_≡_};
 ghost use lib.ListN.{length};
 ghost use Rattle.kept.specs.Kept.{Within, Arrays};
 ghost use Rattle.ports.specs.Input.{Inside, roomy};
-
-// Room for what is read: a line, and what came with it.
-fn blank_input() -> [u8; 262144]
-    ensures { λ r. ⌜ 262144 ≡ length r ⌝ }
-{
-    [0u8; 262144]
-}
-
-// Room for a row.
-fn blank_row() -> [u8; MOST_ROW]
-    ensures { λ r. ⌜ 8192 ≡ length r ⌝ }
-{
-    [0u8; MOST_ROW]
-}
-
-// Room for a book.
-fn blank_book() -> [Entry; MOST_BOOK]
-    ensures { λ r. ⌜ 16384 ≡ length r ⌝ }
-{
-    [0; MOST_BOOK]
-}
-
-// Room for a pin book.
-fn blank_pins() -> [Entry; MOST_PINS]
-    ensures { λ r. ⌜ 65536 ≡ length r ⌝ }
-{
-    [0; MOST_PINS]
-}
 
 // Where the console stands between two steps; it is not open at the end of the input.
 struct State {

@@ -1,27 +1,13 @@
 // One command line.
-use console::help::write_help;
-use console::help::write_reason;
+use console::answer::answer;
 use console::on_book::on_book;
-use console::on_both::write_alter;
-use console::on_image::on_image;
 use console::on_rows::on_rows;
 use image::limits::Entry;
-use image::numbers::tail;
 use kept::Held;
 use kept::anew::anew;
 use words::command::Command;
 use words::command::read;
 ghost use Rattle.kept.specs.Kept.{Within, Arrays};
-
-// Answers a command that lends nothing anew: the image and the books are as much as is lent of them.
-fn answer(command: Command, line: &[u8], img: &mut [u8], book: &mut [Entry], pins: &mut [Entry]) {
-    match command {
-        Command::OnImage(asked) => on_image(asked, line, img),
-        Command::Alter { line: gate, from } => write_alter(tail(line, from), gate, img, book, pins),
-        Command::Unread(why) => write_reason(why),
-        _ => write_help(),
-    }
-}
 
 // Answers a line, and gives what is lent afterwards.
 pub fn obey(

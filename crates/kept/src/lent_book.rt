@@ -3,7 +3,7 @@ use image::limits::Entry;
 use ports::write::write_plain;
 ghost use mathlib.Core.Path.{_≡_};
 ghost use lib.ListN.{length};
-ghost use Rattle.kept.specs.Kept.{freshNumber, alike, LendBookLeaves};
+ghost use Rattle.kept.specs.Kept.{mostBook, mostPins, freshNumber, alike, LendBookLeaves};
 
 // The longest line book and pin book that the console keeps, and the number of a fresh one.
 pub const MOST_BOOK: usize = 16384;
@@ -16,6 +16,19 @@ const FRESH_NUMBER: Entry = 99;
 pub struct BookLengths {
     pub lines: usize,
     pub pins: usize,
+}
+
+// Room for a line book, and for a pin book.
+pub fn blank_book() -> [Entry; MOST_BOOK]
+    ensures { λ r. ⌜ mostBook ≡ length r ⌝ }
+{
+    [0; MOST_BOOK]
+}
+
+pub fn blank_pins() -> [Entry; MOST_PINS]
+    ensures { λ r. ⌜ mostPins ≡ length r ⌝ }
+{
+    [0; MOST_PINS]
 }
 
 // Makes a book fresh.

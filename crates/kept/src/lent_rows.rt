@@ -17,6 +17,13 @@ pub struct Lengths {
     pub faulty: usize,
 }
 
+// Room for a row.
+pub fn blank_row() -> [u8; MOST_ROW]
+    ensures { λ r. ⌜ mostRow ≡ length r ⌝ }
+{
+    [0u8; MOST_ROW]
+}
+
 // Makes a row fresh.
 pub fn freshen_row(row: &mut [u8])
     ensures { λ _. ⌜ now (row .exit) ≡ alike freshByte (length (now (row .entry))) ⌝ }

@@ -6,6 +6,9 @@ ghost use Prim.Native.Nat.{_≤_, _<_};
 ghost use lib.ListN.{length};
 ghost use Rattle.ports.specs.Input.{Inside, Stepped, roomy};
 
+// How much is read before it is brought down.
+const ROOMY: usize = 262144;
+
 // A line of this many bytes is too long.
 const TOO_LONG: usize = 200000;
 
@@ -24,6 +27,13 @@ pub enum Step {
     Long(Place),
     More(Place),
     Last { from: usize, to: usize },
+}
+
+// Room for what is read: a line, and what came with it.
+pub fn blank_input() -> [u8; ROOMY]
+    ensures { λ r. ⌜ roomy ≡ length r ⌝ }
+{
+    [0u8; ROOMY]
 }
 
 // What the line is that ends with the line feed at k.
