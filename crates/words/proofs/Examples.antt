@@ -1,7 +1,6 @@
 -- The definitions compute: lines of the console's page and lines that can't be read, each checked by running the definition.
 use mathlib.Core.Path.{_≡_, refl}
 use mathlib.Core.List.{[], _∷_}
-use Prim.Native.Nat.{ℕ}
 use Prim.Native.String.{String}
 use Rattle.board.specs.Lists.{build, text, same}
 use Rattle.board.specs.declared.Fault.the-variants.{Line, Pin}

@@ -87,9 +87,7 @@ module _ {s : List ℕ} {c : Counts} {line : ℕ} {new : List ℕ} {books : Book
         pub all-done : {n m : ℕ} {book pins : List ℕ} → Renewed Lines t marks (books Lines) n book → Renewed Pins t marks (books Pins) m pins
             → Reworked s line new books (n + m) t (both book pins)
         all-done {n} {m} {book} {pins} lines rest =
-            let (book-is, found-lines) = book-done Lines lines in
-            let (pins-are, found-pins) = book-done Pins rest in
-            record { image = put; books-are = each; count = cc (found-lines, found-pins) }
+            record { image = put; books-are = each; count = cc (book-done Lines lines .1, book-done Pins rest .1) }
           where
             each : (sort : Sort) → both book pins sort ≡ broughtUp s books line new sort
             each Lines = book-done Lines lines .0

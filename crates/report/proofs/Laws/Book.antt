@@ -1,7 +1,7 @@
 -- What follows the first line of the text that the program `book` writes, for either book: each line by its place, how many there
 -- are, and how many pins a board's lines use.
 use mathlib.Core.Path.{_≡_, refl, sym, ap, _∙_}
-use mathlib.Core.Option.{none, some}
+use mathlib.Core.Option.{some}
 use mathlib.Core.List.{List, [], _∷_, _++_}
 use Prim.Native.Nat.{ℕ, zero, suc, _+_, _-_, _*_, _≤_, _<_}
 use native.Mathlib.Numerals.{add-one}
@@ -20,7 +20,7 @@ use Rattle.image.specs.declared.Refusal.{Refusal}
 use Rattle.image.proofs.Laws.Fine.{passed, four-pins, field-good}
 use Rattle.image.proofs.Laws.Line.{pin-count}
 use Rattle.find.specs.Book.{bookOf}
-use Rattle.report.specs.Book.{totalText, pinsOf, faultsOf, entryLine, entryLines, bookLines, linesAfter, Filled, RestOf}
+use Rattle.report.specs.Book.{totalText, pinsOf, faultsOf, entryLine, entryLines, bookLines, RestOf}
 
 -- at most eight entries a line
 pub entries-few : (sort : Sort) (n : ℕ) → n ≤ mostLines → entriesALine sort * n ≤ 8 * mostLines

@@ -1,7 +1,4 @@
 -- `image::pins::is_absent` meets its contract, case by case.
-use Prim.Native.Nat.{_<_}
-use Rattle.board.specs.Gate.{site}
-use Rattle.image.specs.Image.{lineCount}
 use borrow.Author.Needs.{needs}
 use Rattle.image.proofs.pins.is_absent.Statement.{statement}
 use Rattle.image.proofs.pins.is_absent.Tie as tie

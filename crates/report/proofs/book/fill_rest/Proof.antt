@@ -1,6 +1,6 @@
 -- `report::book::fill_rest` meets its contract: an accepted image's book is filled in the front of the room.
-use mathlib.Core.Path.{_≡_, ap, _∙_}
-use Prim.Native.Nat.{ℕ, _*_, _≤_}
+use mathlib.Core.Path.{_≡_}
+use Prim.Native.Nat.{_*_, _≤_}
 use native.Mathlib.Omega.{arith}
 use lib.ListN.{length-take}
 use Rattle.board.specs.Limits.{mostLines}
