@@ -21,6 +21,7 @@ ghost use mathlib.Core.Bool.{cond};
 ghost use mathlib.Core.List.{List};
 ghost use Prim.Native.Nat.{ℕ, _*_, _<_};
 ghost use lib.ListN.{length, getD};
+ghost use Rattle.board.specs.Lists.{somewhere, on};
 ghost use Rattle.board.specs.Limits.{mostLines};
 ghost use Rattle.board.specs.Test.{find as smallestOf};
 ghost use Rattle.board.specs.Book.{entriesALine, entry, found};
@@ -70,8 +71,35 @@ fn renew_entry(img: &[u8], counts: Counts, condition: Condition, marked: bool, o
     if marked { NONE } else { old }
 }
 
-// Works out the entries of the lines that are marked in a row, keeps the others, and gives how many are then not none.
-pub fn renew(img: &[u8], counts: Counts, sort: Sort, marks: &[u8], book: &mut [Entry]) -> usize
+// Whether some line is marked in a row.
+fn has_mark(marks: &[u8]) -> bool
+    ensures { λ r. ⌜ r ≡ somewhere on (now (marks .entry)) ⌝ }
+{
+    let mut l = 0;
+    while l < marks.len() {
+        if 0 < marks[l] {
+            return true;
+        }
+        l += 1;
+    }
+    false
+}
+
+// How many entries of a book are not none.
+fn count_found(book: &[Entry]) -> usize
+    ensures { λ r. ⌜ r ≡ found (now (book .entry)) ⌝ }
+{
+    let mut count = 0;
+    let mut k = 0;
+    while k < book.len() {
+        count += (book[k] != NONE) as usize;
+        k += 1;
+    }
+    count
+}
+
+// Works out the entries of the lines that are marked in a row, keeps the others, and gives how many are then not none, each looked up in the row.
+fn renew_marked(img: &[u8], counts: Counts, sort: Sort, marks: &[u8], book: &mut [Entry]) -> usize
     requires { ⌜ Renewable sort (now img) counts (now book) ⌝ }
     ensures { λ r. ⌜ Renewed sort (now (img .entry)) (now (marks .entry)) (now (book .entry)) r (now (book .exit)) ⌝ }
 {
@@ -86,6 +114,18 @@ pub fn renew(img: &[u8], counts: Counts, sort: Sort, marks: &[u8], book: &mut [E
         k += 1;
     }
     count
+}
+
+// Works out the entries of the lines that are marked in a row, keeps the others, and gives how many are then not none. Where none is marked, they
+// are counted alone.
+pub fn renew(img: &[u8], counts: Counts, sort: Sort, marks: &[u8], book: &mut [Entry]) -> usize
+    requires { ⌜ Renewable sort (now img) counts (now book) ⌝ }
+    ensures { λ r. ⌜ Renewed sort (now (img .entry)) (now (marks .entry)) (now (book .entry)) r (now (book .exit)) ⌝ }
+{
+    if has_mark(marks) {
+        return renew_marked(img, counts, sort, marks, book);
+    }
+    count_found(book)
 }
 
 // Every line marked.

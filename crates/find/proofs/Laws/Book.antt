@@ -1,23 +1,23 @@
 -- A book that is renewed entry by entry: one entry more, counted as it is written, and the whole; a whole book's entries are faults of the board.
-use mathlib.Core.Path.{_≡_, refl}
+use mathlib.Core.Path.{_≡_, refl, sym, ap, _∙_}
 use mathlib.Core.Logic.{⊎-elim}
 use mathlib.Core.List.{List, [], _∷_, _++_}
 use mathlib.Core.Bool.{true, false, not, _||_}
-use Prim.Native.Nat.{ℕ, _+_, _*_, _/_, _%_, _≤_, _<_}
+use Prim.Native.Nat.{ℕ, zero, suc, _+_, _*_, _/_, _%_, _≤_, _<_}
 use native.Mathlib.Nat.{le-trans, le-of-eq}
 use native.Mathlib.Numerals.{add-one}
 use native.Mathlib.Omega.{arith}
 use lib.Dec.{eqb}
 use lib.ListN.{length, getD, take, set}
-use lib.Seq.{take-suc-set}
+use lib.Seq.{take-suc, take-suc-set, ext-getD}
 use borrow.Author.Tests.{eqb-true, eqb-false, eq-eqb, ne-eqb}
-use Rattle.board.specs.Lists.{bit}
+use Rattle.board.specs.Lists.{somewhere, bit, on}
 use Rattle.board.specs.Limits.{mostLines, noneMark}
 use Rattle.board.specs.Gate.{site}
 use Rattle.board.specs.Book.{entriesALine, faultAt, found}
 use Rattle.board.specs.declared.Sort.{Sort}
 use Rattle.board.specs.declared.Sort.the-variants.{Lines, Pins}
-use Rattle.board.proofs.Lists.{way, build-length, build-same}
+use Rattle.board.proofs.Lists.{way, or-false, build-length, build-at, build-same}
 use Rattle.image.specs.Image.{lineCount, boardOf}
 use Rattle.image.specs.Refusals.{Accepted}
 use Rattle.image.specs.Inner.{OnBoard}
@@ -30,7 +30,11 @@ found-end : (es : List ℕ) (e : ℕ) → found (es ++ (e ∷ [])) ≡ found es 
 found-end [] e = omega arith
 found-end (x ∷ es) e = omega (arith, found-end es e)
 
--- one entry more
+-- one entry more, of a book as it is, and of one in which it is written
+pub found-more : (book : List ℕ) (k count : ℕ) → k < length book → count ≡ found (take k book)
+    → count + bit (not (eqb (getD book k 0) noneMark)) ≡ found (take (k + 1) book)
+found-more book k count l h = rw (add-one, take-suc book k 0 l, found-end, h)
+
 pub found-next : (book : List ℕ) (k e count more : ℕ) → k < length book → count ≡ found (take k book) → more ≡ bit (not (eqb e noneMark))
     → count + more ≡ found (take (k + 1) (set book k e))
 found-next book k e count more l h q = rw (add-one, take-suc-set book k e l, found-end, h, q)
@@ -70,6 +74,21 @@ all-reworked sort s book ok long every marked =
     rw long (build-same _ _ (entriesALine sort * lineCount s) (λ k done l.
     let inside = on-lines sort s (entriesALine sort * lineCount s) k refl l .inside in
     rw (marked (site (faultAt sort k)) (omega (arith, inside, lines-few s ok)))))
+
+-- where no line is marked, a reworked book is the old one
+unmarked-at : (marks : List ℕ) → somewhere on marks ≡ false → (l : ℕ) → on (getD marks l 0) ≡ false
+unmarked-at [] e l = refl
+unmarked-at (m ∷ ms) e zero = or-false (on m) (somewhere on ms) e .0
+unmarked-at (m ∷ ms) e (suc l) = unmarked-at ms (or-false (on m) (somewhere on ms) e .1) l
+
+pub none-reworked : (sort : Sort) (s marks old : List ℕ) → somewhere on marks ≡ false → Renewed sort s marks old (found old) old
+unfolding reworkedEntry
+none-reworked sort s marks old e =
+    let new : ℕ → List ℕ → ℕ = λ k done. reworkedEntry sort (boardOf s) marks old k in
+    let same : old ≡ reworked sort (boardOf s) marks old =
+    sym (ext-getD 0 (reworked sort (boardOf s) marks old) old (build-length new (length old)) (λ k l.
+    build-at new (length old) k (rw (build-length new (length old)) at l) ∙ rw (unmarked-at marks e (site (faultAt sort k))))) in
+    record { book = same; count = ap found same }
 
 -- no more entries are counted than there are, in a renewal either
 found-few : (book : List ℕ) → found book ≤ length book
