@@ -1,5 +1,6 @@
 // The record put in, and both books brought up to date by the marks of the board before and of the board after.
 use crate::marks::mark_met;
+use crate::marks::mark_met_after;
 use crate::marks::unmarked;
 use crate::put::put_record;
 use board::Sort;
@@ -26,9 +27,9 @@ fn rework(
     requires { ⌜ Reworkable (now img) counts line (now new) (both (now book) (now pins)) × (length (now marks) ≡ lineCount (now img)) × ((l : ℕ) → getD (now marks) l 0 ≡ 0) ⌝ }
     ensures { λ r. ⌜ Reworked (now (img .entry)) line (now (new .entry)) (both (now (book .entry)) (now (pins .entry))) r (now (img .exit)) (both (now (book .exit)) (now (pins .exit))) ⌝ }
 {
-    mark_met(img, counts, line, marks); // the board before
+    mark_met(img, counts, line, marks);
     put_record(img, line, new);
-    mark_met(img, counts, line, marks); // the board after
+    mark_met_after(img, counts, line, marks);
     let on_lines = renew(img, counts, Sort::Lines, marks, book);
     let on_pins = renew(img, counts, Sort::Pins, marks, pins);
     on_lines + on_pins

@@ -1,24 +1,23 @@
 -- Document 01's two edges: an alteration to the same record is accepted, since that record is good where it stands, and an altered line
 -- that reaches no output touches nothing, before or after.
 use mathlib.Core.Path.{_≡_, sym, ap, _∙_}
-use mathlib.Core.Logic.{⊎-elim}
 use mathlib.Core.Option.{Option, none}
 use mathlib.Core.List.{List}
-use mathlib.Core.Bool.{Bool, false, not, _&&_}
+use mathlib.Core.Bool.{false, not}
 use Prim.Native.Nat.{ℕ, _+_, _*_, _<_}
 use native.Mathlib.Omega.{arith}
 use lib.Dec.{eqb, leb, lit<}
 use lib.ListN.{length, getD, take, drop}
 use lib.Seq.{ext-getD, getD-take, getD-drop}
 use borrow.Author.Tests.{eq-eqb, ne-eqb, lt-leb}
-use Rattle.board.specs.Lists.{_among_, somewhere}
-use Rattle.board.specs.Board.{Board, inputs, leading, altered}
+use Rattle.board.specs.Lists.{_among_}
+use Rattle.board.specs.Board.{inputs, leading, altered}
 use Rattle.board.specs.Gate.{site}
 use Rattle.board.specs.Book.{entriesALine, faultAt, renewed}
-use Rattle.board.specs.Reach.{reach, meets, touched}
+use Rattle.board.specs.Reach.{reach, touched}
 use Rattle.board.specs.declared.Sort.{Sort}
 use Rattle.board.specs.declared.Sort.the-variants.{Lines, Pins}
-use Rattle.board.proofs.Lists.{way, clash, where-passes, nowhere-at, build-length, build-at}
+use Rattle.board.proofs.Lists.{nowhere-at, build-length, build-at}
 use Rattle.board.proofs.Fine.{fine-low, fine-altered}
 use Rattle.board.proofs.Test.{reach-altered}
 use Rattle.image.specs.Bytes.{byteAt, wordAt}
@@ -34,6 +33,7 @@ use Rattle.alter.specs.Patch.{fields, unfit}
 use Rattle.alter.specs.Alter.{Books, broughtUp, alterRefusals}
 use Rattle.alter.proofs.Laws.Refused.{Fit, any-inputs, field-at, takes}
 use Rattle.alter.proofs.Laws.Board.{Same, same-field}
+use Rattle.alter.proofs.Laws.Meet.{meets-none}
 
 -- the ten bytes from a place on
 abbrev pub own : List ℕ → ℕ → List ℕ
@@ -53,16 +53,6 @@ own-same s p = record {
   count = own-byte s p 1 (lit< tt);
   pins = λ j l. let e : p + (2 + 2 * j) ≡ p + 2 + 2 * j = omega arith in own-word s p (2 + 2 * j) (omega arith) ∙ ap (wordAt s) e;
 }
-
--- a line that reaches no output reaches none that another reaches
-meets-none : (b : Board) (a l : ℕ) → ((o : ℕ) → o among (b .outs) → reach b a o ≡ false) → meets b a l ≡ false
-unfolding meets
-meets-none b a l alone =
-    let both : ℕ → Bool = λ o. reach b a o && reach b l o in
-    ⊎-elim
-    (λ e. let (o, m, y) = where-passes both (b .outs) e in clash (both o) y (rw (alone o m)))
-    (λ e. e)
-    (way (somewhere both (b .outs)))
 
 module _ (s : List ℕ) (line : ℕ) (ok : Accepted s) (inside : line < lineCount s) where
   module _ (gate : byteAt s (recordPlace s line) ≡ 0 → ⊥) where

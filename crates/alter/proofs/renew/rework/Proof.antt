@@ -1,12 +1,10 @@
 -- `alter::renew::rework` meets its contract: the row gets the marks of the board before, and then those of the board after, and by them both
 -- books are renewed.
-use mathlib.Core.Path.{ap, _∙_}
 use native.Mathlib.Omega.{arith}
 use Rattle.board.specs.declared.Sort.the-variants.{Lines, Pins}
 use Rattle.image.proofs.Laws.Fine.{lines-few}
 use Rattle.find.proofs.Laws.Book.{renewed-few}
-use Rattle.alter.specs.Inner.{withMet}
-use Rattle.alter.proofs.Laws.Renew.{puts, known-after, renews-after, all-done}
+use Rattle.alter.proofs.Laws.Renew.{puts, known-after, marked-or-none, renews-after, all-done}
 use borrow.Author.Needs.{needs}
 use Rattle.alter.proofs.renew.rework.Statement.{statement}
 use Rattle.alter.proofs.renew.rework.Tie as tie
@@ -18,10 +16,15 @@ began c = c .before .before .before .before .before .before .before .before .bef
 put-record-requires : tie.Need-put-record-requires
 put-record-requires c κs = puts (c .before .before .before .before .before .before .before .before .before .before .before .pre .0)
 
-mark-met-requires-2 : tie.Need-mark-met-requires-2
-mark-met-requires-2 c κs =
+mark-met-after-requires : tie.Need-mark-met-after-requires
+mark-met-after-requires c κs =
     let put = c .before .before .before .before in
-    known-after (began put .pre .0) _ (put .put-record .ensures)
+    let start = began put in
+    let first = put .before .before .before .before in (
+      known-after (start .pre .0) _ (put .put-record .ensures),
+      marked-or-none (start .pre .0) _ (put .put-record .ensures) (start .args .marks .now) (start .pre .2) (start .pre .1)
+          (first .mark-met .last .1 .1 .1 .0) (first .mark-met .ensures),
+    )
 
 renew-requires : tie.Need-renew-requires
 renew-requires c κs =
@@ -50,11 +53,11 @@ returns c =
     let first = put .before .before .before .before in
     let start = began put in
     let a = start .args in
-    all-done (start .pre .0) _ (put .put-record .ensures) (a .marks .now) (start .pre .2) (start .pre .1) _
-    (second .mark-met2 .ensures ∙ ap (withMet _ (a .line)) (first .mark-met .ensures)) (lines .renew .ensures) (pins .renew2 .ensures)
+    all-done (start .pre .0) _ (put .put-record .ensures) (a .marks .now) (start .pre .2) (start .pre .1) (first .mark-met .last .1 .1 .1 .0)
+    (first .mark-met .ensures) (first .mark-met .kept .1 .1 .1 .0) (second .mark-met-after .last .1 .1 .1 .0) (second .mark-met-after .ensures) (lines .renew .ensures) (pins .renew2 .ensures)
 
 pub rework-spec : {M : Type 1} → statement M
 rework-spec =
     tie.close
-    (tie.spec (λ c κs. search needs) put-record-requires mark-met-requires-2 renew-requires renew-requires-2 add-result (λ c. search needs)
+    (tie.spec (λ c κs. search needs) put-record-requires mark-met-after-requires renew-requires renew-requires-2 add-result (λ c. search needs)
     (λ c. search needs) (λ c. search needs) (λ c. search needs) returns)
