@@ -4,8 +4,9 @@
     tests/compare.py                                  60,000 commands, as the gate runs it
     tests/compare.py --seed 7 --commands 2000000      millions of commands, from another seed
 
-It prints how often each answer and each refusal of each command arose, and fails where one that the command can give arose
-fewer than 20 times. Its last line is 'N passed, M failed', where a part of a script counts one.
+It prints how often each answer and each refusal of each command arose, and of accepted alterations each sort of board, altered line and
+touched line, and fails where one of these arose fewer than 20 times. Its last line is 'N passed, M failed', where a part of a script
+counts one.
 """
 import argparse
 import collections
@@ -19,6 +20,7 @@ from pathlib import Path
 
 import programs
 import scripts
+import shapes
 from shapes import ROOT, make
 
 ORACLE, PRODUCT = [programs.ORACLE, "console"], [programs.LAUNCHER, "bench"]
@@ -65,9 +67,13 @@ CAN_ANSWER = {
     "no command": ["?", "? line too long"],
     "a bad record": [f"field {n}" for n in range(6)],
     "alter's 9": ["line book", "pin book", "both books"],
+    "altered board": ["64 outputs", "an output is an input", "a line reaches none"],
+    "altered line": ["reaches none", "is an output and reaches another"],
+    "touched": ["by the first output only", "by the last only", "by the 64th only", "before only", "after only",
+                *(f"through pin {pin} only" for pin in range(4))],
 }
 # rows of the table that say more of an answer that another row has counted
-CLOSER = ("a bad record", "alter's 9")
+CLOSER = ("a bad record", "alter's 9", "altered board", "altered line", "touched")
 FIXED = (b"? line too long", b"? cannot read")
 
 
@@ -202,9 +208,45 @@ def wrong_books(lines, book, pins):
     return "both books" if book != 2 * lines and pins != 8 * lines else "line book" if book != 2 * lines else "pin book"
 
 
+def image_after(image, command, answer):
+    """The kept image after a command other than an alteration, from that before it; nothing where it came from a file."""
+    if answer.startswith(b"? ") or not command.startswith((b"load ", b"open ")):
+        return image
+    return bytes.fromhex(command[5:].decode().replace("-", "")) if command.startswith(b"load ") else None
+
+
+def alteration(image, command):
+    """The boards before and after an accepted alteration, and the altered line."""
+    _, line, data = command.split(b" ")
+    before = shapes.board_of(image)
+    return before, before.altered(int(line), shapes.unpacked(bytes.fromhex(data.decode()))), int(line)
+
+
+def of_alteration(before, after, line):
+    """What the table counts of an accepted alteration. A line is touched by the outputs that it and the altered line both reach."""
+    outputs, reached, pairs = before.outputs, before.reached(), shapes.shared(before, after, line)
+    touched, several, last = [old | new for old, new in pairs], len(outputs) > 1, 1 << len(outputs) - 1
+    forms = {
+        ("altered board", "64 outputs"): len(outputs) == 64,
+        ("altered board", "an output is an input"): outputs[0] < before.inputs,
+        ("altered board", "a line reaches none"): 0 in reached,
+        ("altered line", "reaches none"): reached[line] == 0,
+        ("altered line", "is an output and reaches another"): line in outputs and reached[line] != 1 << outputs.index(line),
+        ("touched", "by the first output only"): several and 1 in touched,
+        ("touched", "by the last only"): several and last in touched,
+        ("touched", "by the 64th only"): 1 << 63 in touched,
+        ("touched", "before only"): any(old and not new for old, new in pairs),
+        ("touched", "after only"): any(new and not old for old, new in pairs),
+    }
+    for pin in range(4):
+        others = [old | new for old, new in shapes.shared(before, after, line, pin)]
+        forms["touched", f"through pin {pin} only"] = any(all_pins and not less for all_pins, less in zip(touched, others))
+    return [form for form, holds in forms.items() if holds]
+
+
 def counted(commands, answered):
     """How often each form of answer of each command arose."""
-    counts, lent = collections.Counter(), (0, 0, 0)
+    counts, lent, image = collections.Counter(), (0, 0, 0), None
     for command, answer in zip(commands, answered):
         name = command_name(command, answer)
         counts[name, form(command, answer)] += 1
@@ -213,6 +255,11 @@ def counted(commands, answered):
             counts["a bad record", "field " + answer.decode().rsplit(".", 1)[1]] += 1
         if (name, answer) == ("alter", b"refused 9"):
             counts["alter's 9", wrong_books(*lent)] += 1
+        image = image_after(image, command, answer)
+        if name == "alter" and answer.startswith(b"found ") and image:
+            before, after, line = alteration(image, command)
+            counts.update(of_alteration(before, after, line))
+            image = after.image()
     return counts
 
 

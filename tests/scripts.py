@@ -13,6 +13,8 @@ from shapes import make
 TOP = 2**64 - 1
 # the credit in gate values that each command earns for searches, so that a script's time grows with its length alone
 CREDIT = 15_000
+# how many entries an alteration of a board with many outputs may touch, so that the time goes to many alterations
+FEW = 80
 LOOKS = (b"image", b"entries", b"pin entries", b"show good 0", b"show faulty 0")
 
 
@@ -24,6 +26,11 @@ class Script:
         self.rng = random.Random(seed)
         self.commands, self.parts, self.credit = [], [], 200_000
         self.board = None
+
+    def add(self, part):
+        """Adds a part."""
+        self.parts.append((len(self.commands), part.__name__))
+        part(self)
 
     def say(self, *words):
         """Adds a command; numbers and bytes become words."""
@@ -454,6 +461,32 @@ def alterations(s):
     s.pin_book()
 
 
+def gate_by_output(s):
+    """A gate's line: any, or one that reaches the first output or, more often, the last, where there is one."""
+    last = len(s.board.outputs) - 1
+    bit = 1 << s.rng.choice((0, last, last))
+    gates = [line for line, bits in enumerate(s.board.reached()) if line >= s.board.inputs and bits & bit]
+    return s.rng.choice(gates) if gates and s.rng.random() < 0.75 else s.gate()
+
+
+def few_shared(s):
+    """Alterations on boards whose lines share few of their many outputs, at times with fresh books, so that every touched entry shows."""
+    s.load(shapes.strands(s.rng))
+    for _ in range(8):
+        line = gate_by_output(s)
+        record = shapes.good_record(s.rng, line)
+        after = s.board.altered(line, record)
+        entries = sum(2 + 2 * len(pins) for (_, pins), outputs in zip(after.records, shapes.shared(s.board, after, line)) if any(outputs))
+        if entries <= FEW and s.afford(s.board.cost(entries)):
+            if s.rng.random() < 0.5:
+                s.say("lend book", 2 * s.board.lines)
+                s.say("lend pins", 8 * s.board.lines)
+            plant_entries(s)
+            s.say("alter", line, shapes.packed(record))
+            s.look("entries", "pin entries", "image")
+            s.board = after
+
+
 def bench_sheet(s):
     """The alterations of T and H on the bench sheet, and S with its line 4 and that line's pins."""
     for image, line, record in ((make.T, 2, make.record(make.AND, 0, 1)), (make.H, 3, make.record(make.NOT, 1)),
@@ -637,7 +670,8 @@ def files(s):
         s.look("image", "show good 0", "pin entries")
 
 
-# each sort of part and how often it comes
+# the parts that every script begins and ends with, and each sort of part between them and how often it comes
+FIRST, LAST = (before_load, gate_tables), (few_shared,) * 3
 PARTS = {
     exhaustive: 6, every_row: 6, largest: 2, many_inputs: 3, refusals: 8, every_refusal: 5, every_absent_pin: 4, every_book_length: 4,
     bad_image: 4, bad_boards: 5, damaged_image: 5, random_image: 3, alterations: 10, bench_sheet: 2, refreshes: 5, five_values: 5,
@@ -650,9 +684,10 @@ def script(seed, commands):
     """A script of at least so many commands; the same seed gives the same script."""
     s = Script(seed)
     sorts, weights = list(PARTS), list(PARTS.values())
-    first = [before_load, gate_tables]
+    for part in FIRST:
+        s.add(part)
     while len(s.commands) < commands:
-        part = first.pop(0) if first else s.rng.choices(sorts, weights)[0]
-        s.parts.append((len(s.commands), part.__name__))
-        part(s)
+        s.add(s.rng.choices(sorts, weights)[0])
+    for part in LAST:
+        s.add(part)
     return s

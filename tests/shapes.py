@@ -35,6 +35,21 @@ class Board:
         places = [(line, pin) for line, (_, pins) in enumerate(self.records) for pin in (None, *range(len(pins)))]
         return [(line, stuck, pin) for line, pin in places for stuck in (0, 1)]
 
+    def reached(self, left_out=None):
+        """For each line which outputs it reaches, bit j for the j-th; where a pin is left out, through the other pins alone."""
+        bits = [0] * self.lines
+        for j, output in enumerate(self.outputs):
+            bits[output] |= 1 << j
+        for line in reversed(range(self.lines)):
+            if bits[line]:
+                for pin, below in enumerate(self.records[line][1]):
+                    bits[below] |= bits[line] if pin != left_out else 0
+        return bits
+
+    def altered(self, line, record):
+        """The board with another record on a line."""
+        return Board([*self.records[:line], record, *self.records[line + 1:]], self.outputs, self.note)
+
     def record_at(self, line):
         """Where a line's record starts in the image."""
         return len(self.note) + 10 * line
@@ -47,6 +62,25 @@ def packed(record):
     """The ten bytes of a record."""
     kind, pins = record
     return make.record(kind, *pins)
+
+
+def unpacked(data):
+    """The record of ten bytes."""
+    kind, count, *pins = struct.unpack("<BB4H", data)
+    return kind, tuple(pins[:count])
+
+
+def board_of(image):
+    """The board of a good image."""
+    lines, outputs, distance = struct.unpack("<HHI", image[-12:-4])
+    note, rest = image[:-distance], image[-distance:]
+    return Board([unpacked(rest[10 * i:10 * i + 10]) for i in range(lines)], struct.unpack(f"<{outputs}H", rest[10 * lines:-12]), note)
+
+
+def shared(before, after, line, left_out=None):
+    """For each line the outputs that it and an altered line both reach, as bits: before, and after."""
+    rows = [board.reached(left_out) for board in (before, after)]
+    return list(zip(*([bits & row[line] for bits in row] for row in rows)))
 
 
 def pin_count(rng, kind):
@@ -184,6 +218,26 @@ def wide(rng):
         records.append(gate(rng, 0, line))
     outputs = some_outputs(rng, len(records), 8)
     return Board(records + [gate(rng, 0, len(records))], outputs, a_note(rng))
+
+
+def strands(rng):
+    """Strands side by side, each going on through any one pin of a gate whose others are inputs; a few meet, and most end in an output."""
+    outputs, lines = rng.choice(((64, 72), (64, 72), (64, 72), (64, 100), (64, 140), (64, 512), (33, 60), (3, 40)))
+    inputs = rng.randint(1, 2) if lines < 512 else 1
+    loose = rng.choice((0, 1, (lines - outputs) // 4, (lines - outputs) // 4))
+    records, ends = [INPUT] * inputs, [rng.randrange(inputs) for _ in range(outputs + loose)]
+    for line in range(inputs, lines):
+        strand = line % len(ends) if line < 2 * len(ends) else rng.randrange(len(ends))
+        kind = rng.randrange(1, 9)
+        pins = [rng.randrange(inputs) for _ in range(pin_count(rng, kind))]
+        if rng.random() < 0.1:
+            pins[0] = rng.choice(ends)
+        pins[rng.randrange(len(pins))] = ends[strand]
+        records.append((kind, tuple(pins)))
+        ends[strand] = line
+    own = rng.randrange(inputs + 1)
+    chosen = [*range(own), *rng.sample(ends, outputs - own)] if rng.random() < 0.8 else rng.sample(range(lines), outputs)
+    return Board(records, sorted(chosen), a_note(rng))
 
 
 def some_islands(rng):
