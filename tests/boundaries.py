@@ -302,6 +302,108 @@ PINS_OF_REFUSED = [
     ("pin entries", book("pins", (99, 24))),
 ]
 
+# document 02, W2: which lines share an output with the altered one. Every number of a book is 99 at first, so that what was touched shows
+
+# 64 outputs, lines 2 to 65, each a buffer: 63 of input 0 and the 64th of input 1. So line 65 shares the 64th with input 1 and nothing else, and line
+# 2 the first with input 0
+SIDE_BY_SIDE = image([record(INPUT)] * 2 + [record(BUFFER, 0)] * 63 + [record(BUFFER, 1)], range(2, 66))
+ON_SIDE_BY_SIDE = [
+    ("alter 65 02010100000000000000", "found 646 of 660"),  # not(1)
+    ("entries", book("entries", (99, 2), (2, 1), (0, 1), (99, 126), (0, 1), (2, 1))),
+    ("pin entries", book("pins", (99, 8), (NONE, 8), (99, 504), (2, 1), (0, 1), (NONE, 6))),
+    ("alter 2 02010000000000000000", "found 632 of 660"),  # not(0)
+    ("entries", book("entries", (1, 1), (0, 1), (2, 1), (0, 1), (0, 1), (1, 1), (99, 124), (0, 1), (2, 1))),
+    ("pin entries", book("pins", (NONE, 16), (1, 1), (0, 1), (NONE, 6), (99, 496), (2, 1), (0, 1), (NONE, 6))),
+    # line 65 as or(0,1), which input 0 shares in the board after alone, then as buffer(1), in the board before alone, then as not(1), in neither
+    ("put entry 0 99", "lent"),
+    ("put entry 4 99", "lent"),
+    ("alter 65 05020000010000000000", "found 634 of 660"),
+    ("entries", book("entries", (1, 1), (0, 1), (2, 1), (0, 1), (99, 1), (1, 1), (99, 124), (1, 1), (0, 1))),
+    ("pin entries", book("pins", (NONE, 16), (1, 1), (0, 1), (NONE, 6), (99, 496), (1, 1), (0, 1), (2, 1), (0, 1), (NONE, 4))),
+    ("put entry 0 99", "lent"),
+    ("alter 65 01010100000000000000", "found 632 of 660"),
+    ("entries", book("entries", (1, 1), (0, 1), (2, 1), (0, 1), (99, 1), (1, 1), (99, 124), (2, 1), (0, 1))),
+    ("put entry 0 99", "lent"),
+    ("alter 65 02010100000000000000", "found 632 of 660"),
+    ("entries", book("entries", (99, 1), (0, 1), (2, 1), (0, 1), (99, 1), (1, 1), (99, 124), (0, 1), (2, 1))),
+]
+
+# 64 outputs, all lines of a chain: every line shares the 64th alone with line 63
+ON_CHAIN = [
+    ("alter 63 02013e00000000000000", "found 254 of 640"),  # line 63 as not(62)
+    ("entries", book("entries", *[(1, 1), (0, 1)] * 63, (0, 1), (1, 1))),
+    ("pin entries", book("pins", (NONE, 8), *[(1, 1), (0, 1), (NONE, 6)] * 63)),
+]
+
+
+def link(line):
+    """The or on a line of board D's chain: the line before is on its last pin, pin 1, 2 or 3 as the chain goes, and input 1 on those below that."""
+    return record(OR, *[1] * (1 + (line - 2) % 3), line - 1)
+
+
+# board D has 512 lines. Lines 2 to 41 are a chain of ors from input 0 to line 511, the 64th output, through pins 1, 2 and 3 in turn; all their
+# other pins are input 1. Lines 42 to 447 reach no output, and lines 448 to 510 are the other outputs; all these are buffers of input 1
+CHAIN_OF_D = [record(OR, 1, 0)] + [link(line) for line in range(3, 42)]
+D = image([record(INPUT)] * 2 + CHAIN_OF_D + [record(BUFFER, 1)] * 469 + [record(OR, 1, 1, 1, 41)], range(448, 512))
+
+
+def pins_of_or(*counts):
+    """The pin entries of ors of that chain with so many pins. Where input 1 is 1 so is line 511, whatever one pin reads; pattern 0 shows all at 1."""
+    return [run for n in counts for run in [*[(NONE, 1), (0, 1)] * (n - 1), (1, 1), (0, 1), (NONE, 8 - 2 * n)]]
+
+
+# such an or is 1 where either input is: pattern 1 shows it at 0, and pattern 0 at 1
+PINS_OF_CHAIN = pins_of_or(3, *[3, 4, 2] * 13)
+ON_D = [
+    ("alter 2 05030100010000000000", "found 4941 of 5120"),  # or(1,1,0)
+    ("entries", book("entries", (1, 1), (0, 1), (2, 1), (0, 1), *[(1, 1), (0, 1)] * 40, (99, 938), (1, 1), (0, 1))),
+    ("pin entries", book("pins", (NONE, 16), *PINS_OF_CHAIN, (99, 3752), *pins_of_or(4))),
+    # line 42 reaches nothing, before and after; line 41 feeds it and is not touched
+    ("put entry 82 77", "lent"),
+    ("alter 42 08042900010000002900", "found 4941 of 5120"),  # xnor(41,1,0,41)
+    ("entries", book("entries", (1, 1), (0, 1), (2, 1), (0, 1), *[(1, 1), (0, 1)] * 39, (77, 1), (0, 1), (99, 938), (1, 1), (0, 1))),
+    # the first output as and(0,1): both inputs share it, input 0 in the board after alone; the chain does not
+    ("put entry 0 77", "lent"),
+    ("put entry 2 77", "lent"),
+    ("alter 448 03020000010000000000", "found 4937 of 5120"),
+    ("entries", book("entries", (1, 1), (0, 1), (2, 1), (0, 1), *[(1, 1), (0, 1)] * 39, (77, 1), (0, 1), (99, 812), (3, 1), (0, 1),
+                     (99, 124), (1, 1), (0, 1))),
+    ("pin entries", book("pins", (NONE, 16), *PINS_OF_CHAIN, (99, 3248), (3, 1), (2, 1), (3, 1), (1, 1), (NONE, 4), (99, 496), *pins_of_or(4))),
+    # line 40 as buffer(1): lines 2 to 39 share line 511 with it in the board before alone, and reach nothing after
+    ("alter 40 01010100000000000000", "found 4701 of 5120"),
+    ("entries", book("entries", (3, 1), (2, 1), (2, 1), (0, 1), (NONE, 76), *[(NONE, 1), (0, 1)] * 2, (99, 812), (3, 1), (0, 1),
+                     (99, 124), (2, 1), (0, 1))),
+    ("pin entries", book("pins", (NONE, 320), (NONE, 1), (0, 1), (NONE, 6), *[(NONE, 1), (0, 1)] * 2, (NONE, 4),
+                         (99, 3248), (3, 1), (2, 1), (3, 1), (1, 1), (NONE, 4), (99, 496), *[(NONE, 1), (0, 1)] * 4)),
+]
+
+# outputs that are inputs: lines 0 and 1, and gate 2, which is and(0,1); line 3 is not(2) and reaches none
+INPUTS_OUT = image([record(INPUT)] * 2 + [record(AND, 0, 1), record(NOT, 2)], [0, 1, 2])
+ON_INPUTS_OUT = [
+    ("alter 3 05020000010000000000", "found 40 of 40"),  # or(0,1): no gate reaches an input, though it is an output
+    ("entries", book("entries", (99, 8))),
+    ("pin entries", book("pins", (99, 32))),
+    ("alter 2 01010000000000000000", "found 18 of 40"),  # buffer(0): input 1 is touched by the board before
+    ("entries", "entries 1 0 2 0 1 0 99 99"),
+    ("pin entries", book("pins", (NONE, 16), (1, 1), (0, 1), (NONE, 6), (99, 8))),
+    ("put entry 2 77", "lent"),
+    ("put pin 8 77", "lent"),
+    ("alter 2 02010000000000000000", "found 19 of 40"),  # not(0): input 1 shares its own output with nothing
+    ("entries", "entries 1 0 77 0 0 1 99 99"),
+    ("pin entries", book("pins", (NONE, 8), (77, 1), (NONE, 7), (1, 1), (0, 1), (NONE, 6), (99, 8))),
+]
+
+# outputs that feed outputs: 1 is buffer(0), 2 buffer(1), 3 buffer(0), and each is an output
+FEEDING = image([record(INPUT), record(BUFFER, 0), record(BUFFER, 1), record(BUFFER, 0)], [1, 2, 3])
+ON_FEEDING = [
+    ("alter 1 02010000000000000000", "found 20 of 40"),  # not(0), which shares line 2 with 2, and nothing with 3
+    ("entries", "entries 1 0 0 1 0 1 99 99"),
+    ("pin entries", book("pins", (NONE, 8), (1, 1), (0, 1), (NONE, 6), (0, 1), (1, 1), (NONE, 6), (99, 8))),
+    ("alter 3 02010000000000000000", "found 14 of 40"),  # not(0), which shares itself with input 0 alone
+    ("entries", "entries 1 0 0 1 0 1 0 1"),
+    ("pin entries", book("pins", (NONE, 8), (1, 1), (0, 1), (NONE, 6), (0, 1), (1, 1), (NONE, 6), (1, 1), (0, 1), (NONE, 6))),
+]
+
 BEFORE_LOAD = [("pin entries", "pins"), ("pin book", "refused 1"), ("find 0.0/0", "refused 1"), ("put pin 0 1", "?")]
 # a board's name and image, what Check says of it, and what is asked of it
 S_COUNTS, T_COUNTS = "board 12 lines 4 inputs 1 outputs", "board 3 lines 1 inputs 1 outputs"
@@ -316,6 +418,11 @@ ASKED = [
     ("24 inputs", INPUTS, "board 24 lines 24 inputs 1 outputs", PINS_OF_INPUTS),
     ("one and", ONE_AND, "board 3 lines 2 inputs 1 outputs", PINS_OF_AND),
     ("a refused image", REFUSED, "refused 5 at 0", PINS_OF_REFUSED),
+    ("64 side by side", SIDE_BY_SIDE, "board 66 lines 2 inputs 64 outputs", ON_SIDE_BY_SIDE),
+    ("a chain of outputs", image(chain(64), range(64)), "board 64 lines 1 inputs 64 outputs", ON_CHAIN),
+    ("D", D, "board 512 lines 2 inputs 64 outputs", ON_D),
+    ("inputs as outputs", INPUTS_OUT, "board 4 lines 2 inputs 3 outputs", ON_INPUTS_OUT),
+    ("outputs that feed", FEEDING, "board 4 lines 1 inputs 3 outputs", ON_FEEDING),
 ]
 
 
