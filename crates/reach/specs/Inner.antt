@@ -8,13 +8,13 @@ use Rattle.board.specs.Gate.{bitOf}
 use Rattle.image.specs.Bytes.{wordAt}
 
 -- line l's number has bit j
-abbrev pub Has : List ℕ → ℕ → ℕ → Type 0
-Has numbers l j = bitOf (getD numbers l 0) j ≡ 1
+abbrev pub HasBit : List ℕ → ℕ → ℕ → Type 0
+HasBit numbers l j = bitOf (getD numbers l 0) j ≡ 1
 
 -- for each k below m the line `to k` was handed the number `n k`: a line has a bit exactly when it had it, or was handed a number with it
 pub record Handed (to n : ℕ → ℕ) (m : ℕ) (old new : List ℕ) : Type 0 where
   pub long : length new ≡ length old
-  pub has : (l j : ℕ) → Has new l j ↔ (Has old l j ⊎ ((k : ℕ) × (k < m) × (l ≡ to k) × (bitOf (n k) j ≡ 1)))
+  pub has : (l j : ℕ) → HasBit new l j ↔ (HasBit old l j ⊎ ((k : ℕ) × (k < m) × (l ≡ to k) × (bitOf (n k) j ≡ 1)))
 
 -- the line on pin k of the record at place p
 abbrev pub pinAt : List ℕ → ℕ → ℕ → ℕ

@@ -1,4 +1,4 @@
--- Which outputs each line reaches, one number a line: bit j is for the j-th of the output list.
+-- Which outputs each line reaches, one number a line: bit j is for the j-th of the output list. No call's promise rests on it.
 use mathlib.Core.Path.{_≡_}
 use mathlib.Core.List.{List}
 use mathlib.Core.Bool.{Bool, _&&_}

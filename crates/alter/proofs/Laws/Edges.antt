@@ -1,6 +1,6 @@
 -- Document 01's two edges: an alteration to the same record is accepted, since that record is good where it stands, and an altered line
 -- that reaches no output touches nothing, before or after.
-use mathlib.Core.Path.{_≡_, sym, ap, _∙_}
+use mathlib.Core.Path.{_≡_, ap, _∙_}
 use mathlib.Core.Option.{Option, none}
 use mathlib.Core.List.{List}
 use mathlib.Core.Bool.{false, not}
@@ -19,7 +19,6 @@ use Rattle.board.specs.declared.Sort.{Sort}
 use Rattle.board.specs.declared.Sort.the-variants.{Lines, Pins}
 use Rattle.board.proofs.Lists.{nowhere-at, build-length, build-at}
 use Rattle.board.proofs.Fine.{fine-low, fine-altered}
-use Rattle.board.proofs.Test.{reach-altered}
 use Rattle.image.specs.Bytes.{byteAt, wordAt}
 use Rattle.image.specs.Image.{lineCount, firstRecord, recordPlace, recordAt, records, boardOf}
 use Rattle.image.specs.Refusals.{badField, imageRefusals, firstRefusal, Accepted}
@@ -33,7 +32,7 @@ use Rattle.alter.specs.Patch.{fields, unfit}
 use Rattle.alter.specs.Alter.{Books, broughtUp, alterRefusals}
 use Rattle.alter.proofs.Laws.Refused.{Fit, any-inputs, field-at, takes}
 use Rattle.alter.proofs.Laws.Board.{Same, same-field}
-use Rattle.alter.proofs.Laws.Meet.{meets-none}
+use Rattle.alter.proofs.Laws.Meet.{meets-none, meets-none-after}
 
 -- the ten bytes from a place on
 abbrev pub own : List ℕ → ℕ → List ℕ
@@ -90,7 +89,7 @@ module _ (s : List ℕ) (line : ℕ) (ok : Accepted s) (inside : line < lineCoun
         let fine = accepted-fine s ok in
         let low = fine-low b fine in
         let later = fine-low (altered b line r) (fine-altered b line r fine (takes s line new inside fits)) in
-        rw (meets-none b line l alone, meets-none (altered b line r) line l (λ o m. sym (reach-altered b line r low later o) ∙ alone o m))
+        rw (meets-none b line l alone, meets-none-after b line r low later alone l)
 
     pub nothing-renewed : (books : Books) (sort : Sort) → broughtUp s books line new sort ≡ books sort
     unfolding broughtUp renewed

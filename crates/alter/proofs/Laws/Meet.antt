@@ -31,7 +31,7 @@ pub still-met : (b : Board) (a : ℕ) (marks : List ℕ) → ((l : ℕ) → meet
 still-met b a marks alone l inside = rw (alone l) (sym (or-false (on (getD marks l 0))))
 
 -- a line that does not meet itself reaches no output
-meets-itself : (b : Board) (a : ℕ) → meets b a a ≡ false → (o : ℕ) → o among (b .outs) → reach b a o ≡ false
+pub meets-itself : (b : Board) (a : ℕ) → meets b a a ≡ false → (o : ℕ) → o among (b .outs) → reach b a o ≡ false
 unfolding meets
 meets-itself b a e o m =
     ⊎-elim
@@ -49,9 +49,10 @@ meets-none b a l alone =
     (λ e. e)
     (way (somewhere both (b .outs)))
 
--- an alteration leaves what the altered line reaches as it was
-pub met-by-none : (b : Board) (a : ℕ) (r : Record) → Low b → Low (altered b a r) → meets b a a ≡ false → (l : ℕ) → meets (altered b a r) a l ≡ false
-met-by-none b a r low later e l = meets-none (altered b a r) a l (λ o m. sym (reach-altered b a r low later o) ∙ meets-itself b a e o m)
+-- before an alteration of its record or after, since that leaves what it reaches as it was
+pub meets-none-after : (b : Board) (a : ℕ) (r : Record) → Low b → Low (altered b a r) → ((o : ℕ) → o among (b .outs) → reach b a o ≡ false)
+    → (l : ℕ) → meets (altered b a r) a l ≡ false
+meets-none-after b a r low later alone l = meets-none (altered b a r) a l (λ o m. sym (reach-altered b a r low later o) ∙ alone o m)
 
 pub front-unmarked : (n : ℕ) (row : List ℕ) → ((l : ℕ) → getD row l 0 ≡ 0) → (l : ℕ) → getD (take n row) l 0 ≡ 0
 front-unmarked zero row bare l = refl

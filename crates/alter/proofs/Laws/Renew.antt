@@ -23,7 +23,7 @@ use Rattle.find.proofs.Laws.Book.{on-lines}
 use Rattle.alter.specs.Patch.{patched}
 use Rattle.alter.specs.Inner.{Met, AloneUnlessMarked, Reworkable, Reworked}
 use Rattle.alter.specs.Alter.{Books, both, broughtUp}
-use Rattle.alter.proofs.Laws.Meet.{met-by-none}
+use Rattle.alter.proofs.Laws.Meet.{meets-itself, meets-none-after}
 use Rattle.alter.proofs.Laws.Patch.{record-fits}
 use Rattle.alter.proofs.Laws.Refused.{Fit, fit, takes}
 use Rattle.alter.proofs.Laws.Board.{board-is, same-lines, still-known}
@@ -60,7 +60,7 @@ module _ {s : List ℕ} {c : Counts} {line : ℕ} {new : List ℕ} {books : Book
           let fine = accepted-fine s (asked .known .ok) in
           let later = fine-altered b line (recordAt new 0) fine (takes s line new (asked .inside) fits) in
           let alone : meets b line line ≡ false = rw (none-marked line, off) at (sym (met line (rw room (asked .inside)))) in
-          rw after (met-by-none b line (recordAt new 0) (fine-low b fine) (fine-low _ later) alone l)
+          rw after (meets-none-after b line (recordAt new 0) (fine-low b fine) (fine-low _ later) (meets-itself b line alone) l)
 
       module _ (long : length first ≡ length bare) (marks : List ℕ) (met-after : Met (boardOf t) line first marks) where
         -- by the marks of both boards a book is brought up to date

@@ -13,7 +13,7 @@ use lib.Seq.{getD-set-same, getD-set-other}
 use borrow.Author.Tests.{eqb-true, eqb-false}
 use Rattle.board.specs.Gate.{bitOf}
 use Rattle.board.proofs.Lists.{way}
-use Rattle.reach.specs.Inner.{Has, Handed}
+use Rattle.reach.specs.Inner.{HasBit, Handed}
 use Rattle.reach.proofs.Laws.Bits.{or-has}
 
 -- nothing handed yet
@@ -22,7 +22,7 @@ none-handed to n old = record { long = refl; has = λ l j. (inl, ⊎-elim (λ h.
 
 -- one line more
 module _ (now : List ℕ) (line v : ℕ) (inside : line < length now) where
-  set-has : (l j : ℕ) → Has (set now line (bitOr (getD now line 0) v)) l j ↔ (Has now l j ⊎ ((l ≡ line) × (bitOf v j ≡ 1)))
+  set-has : (l j : ℕ) → HasBit (set now line (bitOr (getD now line 0) v)) l j ↔ (HasBit now l j ⊎ ((l ≡ line) × (bitOf v j ≡ 1)))
   set-has l j =
       ⊎-elim
       (λ (t : eqb l line ≡ true).
@@ -39,14 +39,14 @@ module _ (now : List ℕ) (line v : ℕ) (inside : line < length now) where
       → Handed to n (m + 1) old (set now line (bitOr (getD now line 0) v))
   handed-more {to} {n} {m} {old} so is gives = record { long = length-set now line _ ∙ so .long; has = λ l j. (from l j, back l j) }
     where
-      from : (l j : ℕ) → Has (set now line (bitOr (getD now line 0) v)) l j → Has old l j ⊎ ((k : ℕ) × (k < m + 1) × (l ≡ to k) × (bitOf (n k) j ≡ 1))
+      from : (l j : ℕ) → HasBit (set now line (bitOr (getD now line 0) v)) l j → HasBit old l j ⊎ ((k : ℕ) × (k < m + 1) × (l ≡ to k) × (bitOf (n k) j ≡ 1))
       from l j h =
           ⊎-elim
           (λ b. ⊎-elim inl (λ w. inr (w .0, omega (arith, w .1), w .2, w .3)) (so .has l j .0 b))
           (λ w. inr (m, omega arith, w .0 ∙ is, rw gives at (w .1)))
           (set-has l j .0 h)
 
-      back : (l j : ℕ) → Has old l j ⊎ ((k : ℕ) × (k < m + 1) × (l ≡ to k) × (bitOf (n k) j ≡ 1)) → Has (set now line (bitOr (getD now line 0) v)) l j
+      back : (l j : ℕ) → HasBit old l j ⊎ ((k : ℕ) × (k < m + 1) × (l ≡ to k) × (bitOf (n k) j ≡ 1)) → HasBit (set now line (bitOr (getD now line 0) v)) l j
       back l j (inl h) = set-has l j .1 (inl (so .has l j .1 (inl h)))
       back l j (inr (k, few, at, e)) =
           set-has l j .1

@@ -14,7 +14,7 @@ use Rattle.image.specs.Refusals.{Accepted}
 use Rattle.image.proofs.Laws.Fine.{accepted-fine, line-count}
 use Rattle.image.proofs.Laws.Records.{records-at}
 use Rattle.reach.specs.Inner.{Handed, pinAt}
-use Rattle.reach.proofs.Laws.Pass.{Passed, passed-none, passed-more}
+use Rattle.reach.proofs.Laws.Pass.{PassedDown, passed-none, passed-more}
 
 module _ (s : List ℕ) (ok : Accepted s) where
   pub low : Low (boardOf s)
@@ -35,11 +35,11 @@ module _ (s : List ℕ) (ok : Accepted s) where
 
   -- none handed down yet
   pub begins : {bare now : List ℕ} {n m : ℕ} → n ≡ lineCount s → m ≡ outputCount s → ((l : ℕ) → getD bare l 0 ≡ 0)
-      → Handed (outputAt s) (λ j. 2 ^ j) m bare now → Passed (boardOf s) n now
+      → Handed (outputAt s) (λ j. 2 ^ j) m bare now → PassedDown (boardOf s) n now
   begins lines outs none-yet gave = rw (lines ∙ sym (line-count s)) (passed-none (boardOf s) low refl none-yet (rw outs at gave))
 
   -- one line more, the one below those that have
-  pub goes-on : {now later : List ℕ} {above below line first : ℕ} → Passed (boardOf s) above now
+  pub goes-on : {now later : List ℕ} {above below line first : ℕ} → PassedDown (boardOf s) above now
       → Handed (pinAt s (first + 10 * line)) (λ k. getD now line 0) (byteAt s (first + 10 * line + 1)) now later → first ≡ firstRecord s
-      → line < lineCount s → above ≡ suc line → below ≡ line → Passed (boardOf s) below later
+      → line < lineCount s → above ≡ suc line → below ≡ line → PassedDown (boardOf s) below later
   goes-on {line = line} so gave is inside next same = rw same (passed-more (boardOf s) low (pins-are line inside) (rw next at so) (rw is at gave))

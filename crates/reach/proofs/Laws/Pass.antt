@@ -15,14 +15,14 @@ use Rattle.board.specs.Gate.{bitOf}
 use Rattle.board.proofs.Lists.{way, clash, and-true, build-length, build-at, build-among, among-build}
 use Rattle.board.proofs.Reach.{reach-self, by-readers}
 use Rattle.reach.specs.Numbers.{reachesOutput}
-use Rattle.reach.specs.Inner.{Has, Handed}
+use Rattle.reach.specs.Inner.{HasBit, Handed}
 use Rattle.reach.proofs.Laws.Bits.{bit-low, zero-bit, own-bit, only-bit}
 
 -- the lines from i up have handed their numbers down
-pub record Passed (b : Board) (i : ℕ) (now : List ℕ) : Type 0 where
-  pub right : (l j : ℕ) → Has now l j → reachesOutput b l j ≡ true
-  pub own : (j : ℕ) → j < length (b .outs) → Has now (getD (b .outs) j 0) j
-  pub handed : (q l j : ℕ) → i ≤ q → l among (recordOf b q .pins) → reachesOutput b q j ≡ true → Has now l j
+pub record PassedDown (b : Board) (i : ℕ) (now : List ℕ) : Type 0 where
+  pub right : (l j : ℕ) → HasBit now l j → reachesOutput b l j ≡ true
+  pub own : (j : ℕ) → j < length (b .outs) → HasBit now (getD (b .outs) j 0) j
+  pub handed : (q l j : ℕ) → i ≤ q → l among (recordOf b q .pins) → reachesOutput b q j ≡ true → HasBit now l j
 
 module _ (b : Board) (low : Low b) where
   -- a line that reads l reaches no output that l does not reach
@@ -31,9 +31,9 @@ module _ (b : Board) (low : Low b) where
       let (there, r) = and-true (ltb j (length (b .outs))) _ e in
       rw there (by-readers b low l (getD (b .outs) j 0) .1 (inr (q, m, r)))
 
-  module _ {i : ℕ} {now : List ℕ} (so : Passed b i now) where
+  module _ {i : ℕ} {now : List ℕ} (so : PassedDown b i now) where
     -- what reaches an output has its bit, where all that read it have handed theirs down
-    has-all : (l j : ℕ) → i ≤ suc l → reachesOutput b l j ≡ true → Has now l j
+    has-all : (l j : ℕ) → i ≤ suc l → reachesOutput b l j ≡ true → HasBit now l j
     has-all l j above e =
         let (there, r) = and-true (ltb j (length (b .outs))) _ e in
         ⊎-elim
@@ -51,8 +51,8 @@ module _ (b : Board) (low : Low b) where
         (way (reachesOutput b l j))
 
   -- one line more
-  pub passed-more : {i : ℕ} {now later : List ℕ} {to : ℕ → ℕ} {m : ℕ} → recordOf b i .pins ≡ build (λ k before. to k) m → Passed b (suc i) now
-      → Handed to (λ k. getD now i 0) m now later → Passed b i later
+  pub passed-more : {i : ℕ} {now later : List ℕ} {to : ℕ → ℕ} {m : ℕ} → recordOf b i .pins ≡ build (λ k before. to k) m → PassedDown b (suc i) now
+      → Handed to (λ k. getD now i 0) m now later → PassedDown b i later
   passed-more {i} {to = to} {m} pins so gave = record {
     right =
         λ l j h.
@@ -71,7 +71,7 @@ module _ (b : Board) (low : Low b) where
 
   -- none yet: each line of an output has its own bit
   pub passed-none : {bare now : List ℕ} {to : ℕ → ℕ} {m : ℕ} → b .outs ≡ build (λ k before. to k) m → ((l : ℕ) → getD bare l 0 ≡ 0)
-      → Handed to (λ j. 2 ^ j) m bare now → Passed b (length (b .lines)) now
+      → Handed to (λ j. 2 ^ j) m bare now → PassedDown b (length (b .lines)) now
   passed-none {bare} {to = to} {m} outs none-yet gave =
       let size : length (b .outs) ≡ m = ap length outs ∙ build-length (λ k before. to k) m in
       let out : (k : ℕ) → k < m → getD (b .outs) k 0 ≡ to k = λ k few. ap (λ (os : List ℕ). getD os k 0) outs ∙ build-at (λ k before. to k) m k few in

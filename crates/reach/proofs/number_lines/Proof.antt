@@ -7,14 +7,14 @@ use lib.ListN.{length}
 use Rattle.board.specs.Limits.{mostLines}
 use Rattle.image.specs.Image.{lineCount, boardOf}
 use Rattle.image.proofs.Laws.Fine.{lines-few, outputs-few}
-use Rattle.reach.proofs.Laws.Pass.{Passed, whole}
+use Rattle.reach.proofs.Laws.Pass.{PassedDown, whole}
 use Rattle.reach.proofs.Laws.Image.{low, output-inside, pin-inside, begins, goes-on}
 use borrow.Author.Needs.{needs}
 use Rattle.reach.proofs.number_lines.Statement.{statement}
 use Rattle.reach.proofs.number_lines.Tie as tie
 
 abbrev Inv-loop : tie.InvT-loop
-Inv-loop img numbers₀ lines start left₀ numbers left = (left ≤ lines) × (length numbers ≡ length numbers₀) × Passed (boardOf img) left numbers
+Inv-loop img numbers₀ lines start left₀ numbers left = (left ≤ lines) × (length numbers ≡ length numbers₀) × PassedDown (boardOf img) left numbers
 
 abbrev μ-loop : tie.MeasureT-loop
 μ-loop img numbers₀ lines start left₀ numbers left = left
