@@ -65,7 +65,7 @@ pub fn gate(kind: u8, count: u8, ones: u8) -> u8 {
         1 | 2 => ones == 1,
         3 | 4 => ones == count,
         5 | 6 => ones > 0,
-        7 | 8 => ones == 1,
+        7 | 8 => ones % 2 == 1,
         _ => panic!("not a gate's kind: {kind}"),
     };
     let opposite = matches!(kind, 2 | 4 | 6 | 8);
@@ -120,7 +120,7 @@ fn gate_block(kind: u8, count: u8, ones: &Block, own: &mut Block) {
     match kind {
         3 | 4 => (0..SIDE).for_each(|k| own[k] = u8::from(ones[k] == count)),
         5 | 6 => (0..SIDE).for_each(|k| own[k] = u8::from(ones[k] > 0)),
-        _ => (0..SIDE).for_each(|k| own[k] = u8::from(ones[k] == 1)),
+        _ => (0..SIDE).for_each(|k| own[k] = ones[k] % 2),
     }
     if matches!(kind, 2 | 4 | 6 | 8) {
         (0..SIDE).for_each(|k| own[k] = 1 - own[k]);

@@ -16,6 +16,7 @@ pub const AND: u8 = 3;
 pub const OR: u8 = 5;
 pub const NOR: u8 = 6;
 pub const XOR: u8 = 7;
+pub const XNOR: u8 = 8;
 
 // Gives the 10 bytes of a record of this kind with these pins.
 pub fn record(kind: u8, pins: &[u16]) -> [u8; RECORD] {

@@ -54,7 +54,7 @@ impl Numbers {
 fn table(kind: u8, pins: &[u8]) -> u8 {
     let all = pins.iter().all(|&pin| pin == 1);
     let some = pins.contains(&1);
-    let one = pins.iter().filter(|&&pin| pin == 1).count() == 1;
+    let odd = pins.iter().fold(false, |odd, &pin| odd != (pin == 1));
     let value = match kind {
         1 => pins[0] == 1,
         2 => pins[0] == 0,
@@ -62,8 +62,8 @@ fn table(kind: u8, pins: &[u8]) -> u8 {
         4 => !all,
         5 => some,
         6 => !some,
-        7 => one,
-        _ => !one,
+        7 => odd,
+        _ => !odd,
     };
     u8::from(value)
 }

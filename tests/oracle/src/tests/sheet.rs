@@ -97,21 +97,39 @@ fn h_altered() {
     }
 }
 
-// Exclusive-or of 1,1,1 is 0, and of 1,1,x it is 0: as a gate and on a board.
+// Exclusive-or of 1,1,1 is 1, and of 1,1,x it is x: as a gate and on a board.
 #[test]
 fn exclusive_or() {
-    assert_eq!(gate(XOR, 3, 3), 0);
-    assert_eq!(gate_five(XOR, &[1, 1, 1]), 0);
-    assert_eq!(gate_five(XOR, &[1, 1, X]), 0);
+    assert_eq!(gate(XOR, 3, 3), 1);
+    assert_eq!(gate_five(XOR, &[1, 1, 1]), 1);
+    assert_eq!(gate_five(XOR, &[1, 1, X]), X);
     let mut records = vec![record(INPUT, &[]); 3];
     records.push(record(XOR, &[0, 1, 2]));
     let image = image(0, &records, &[3]);
     let mut row = [9; 4];
-    assert_eq!(calls::five(&image, 7, 7, Fault::on_line(3, 1), &mut row), Ok(1));
-    assert_eq!(row, [1, 1, 1, D_BAR]);
-    assert_eq!(calls::five(&image, 3, 3, Fault::on_line(3, 0), &mut row), Ok(0));
-    assert_eq!(row, [1, 1, X, 0]);
-    assert_eq!(calls::judge(&image, 7, Fault::on_line(3, 0)), Ok(false));
+    assert_eq!(calls::five(&image, 7, 7, Fault::on_line(3, 0), &mut row), Ok(1));
+    assert_eq!(row, [1, 1, 1, D]);
+    assert_eq!(calls::five(&image, 3, 3, Fault::on_line(3, 1), &mut row), Ok(0));
+    assert_eq!(row, [1, 1, X, X]);
+    assert_eq!(calls::judge(&image, 7, Fault::on_line(3, 0)), Ok(true));
+}
+
+// Exclusive-or of three and four pins is odd in how many are 1, kind 8 is the opposite, and an x on any pin leaves it open.
+#[test]
+fn odd_pins() {
+    for (count, values) in [(3, &[0, 1, 0, 1][..]), (4, &[0, 1, 0, 1, 0])] {
+        for (ones, &value) in values.iter().enumerate() {
+            assert_eq!(gate(XOR, count, ones as u8), value);
+            assert_eq!(gate(XNOR, count, ones as u8), 1 - value);
+        }
+    }
+    for x in 0..4 {
+        let mut pins = [1, D, 0, D_BAR];
+        pins[x] = X;
+        assert_eq!((gate_five(XOR, &pins), gate_five(XNOR, &pins)), (X, X));
+    }
+    assert_eq!((gate_five(XOR, &[1, D, 0, D_BAR]), gate_five(XNOR, &[1, D, 0, D_BAR])), (0, 1));
+    assert_eq!((gate_five(XOR, &[1, D, D, D_BAR]), gate_five(XNOR, &[1, D, D, D_BAR])), (D, D_BAR));
 }
 
 // And of D, D-bar is 0; and of D, x is x; exclusive-or of one x line with itself is x.
