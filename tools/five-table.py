@@ -21,7 +21,7 @@ SIGNS = ("0", "1", "x", "D", "D-bar")
 SECTIONS = (
     ("and", lambda bits: all(bits)),
     ("or", lambda bits: any(bits)),
-    ("exclusive-or", lambda bits: sum(bits) == 1),
+    ("exclusive-or", lambda bits: sum(bits) % 2 == 1),
 )
 
 

@@ -1,4 +1,4 @@
--- What a line's value is: document 01's table of kinds, and what a fault does to it: a line is held, or a pin of its gate.
+-- What a line's value is: document 01's table of kinds, as W3 amends it, and what a fault does to it: a line is held, or a pin of its gate.
 use mathlib.Core.List.{List, [], _∷_}
 use mathlib.Core.Bool.{Bool, false, not, cond}
 use Prim.Native.Nat.{ℕ, _/_, _%_, _^_}
@@ -11,13 +11,13 @@ use Rattle.board.specs.declared.Condition.{Condition}
 use Rattle.board.specs.declared.Fault.the-variants.{Line, Pin}
 use Rattle.board.specs.declared.Condition.the-variants.{Sound, Having}
 
--- what each kind from 0 up asks of n pins, of which s are 1: that all are (for a buffer, its one), that some are, that exactly one is
+-- what each kind from 0 up asks of n pins, of which s are 1: that all are (for a buffer, its one), that some are, that an odd number is
 unfoldable pub kinds : ℕ → ℕ → List Bool
 kinds n s =
     let all = eqb s n in
     let some = ltb 0 s in
-    let one = eqb s 1 in
-    false ∷ all ∷ not all ∷ all ∷ not all ∷ some ∷ not some ∷ one ∷ not one ∷ []
+    let odd = eqb (s % 2) 1 in
+    false ∷ all ∷ not all ∷ all ∷ not all ∷ some ∷ not some ∷ odd ∷ not odd ∷ []
 
 abbrev pub asks : ℕ → ℕ → ℕ → Bool
 asks k n s = getD (kinds n s) k false

@@ -1289,32 +1289,32 @@ const TABLE: [u8; 1875] = [
     4, // exclusive-or 0 1 0 D
     3, // exclusive-or 0 1 0 D-bar
     0, // exclusive-or 0 1 1 0
-    0, // exclusive-or 0 1 1 1
-    0, // exclusive-or 0 1 1 x
-    0, // exclusive-or 0 1 1 D
-    0, // exclusive-or 0 1 1 D-bar
+    1, // exclusive-or 0 1 1 1
+    2, // exclusive-or 0 1 1 x
+    3, // exclusive-or 0 1 1 D
+    4, // exclusive-or 0 1 1 D-bar
     2, // exclusive-or 0 1 x 0
-    0, // exclusive-or 0 1 x 1
+    2, // exclusive-or 0 1 x 1
     2, // exclusive-or 0 1 x x
     2, // exclusive-or 0 1 x D
     2, // exclusive-or 0 1 x D-bar
     4, // exclusive-or 0 1 D 0
-    0, // exclusive-or 0 1 D 1
+    3, // exclusive-or 0 1 D 1
     2, // exclusive-or 0 1 D x
-    4, // exclusive-or 0 1 D D
+    1, // exclusive-or 0 1 D D
     0, // exclusive-or 0 1 D D-bar
     3, // exclusive-or 0 1 D-bar 0
-    0, // exclusive-or 0 1 D-bar 1
+    4, // exclusive-or 0 1 D-bar 1
     2, // exclusive-or 0 1 D-bar x
     0, // exclusive-or 0 1 D-bar D
-    3, // exclusive-or 0 1 D-bar D-bar
+    1, // exclusive-or 0 1 D-bar D-bar
     2, // exclusive-or 0 x 0 0
     2, // exclusive-or 0 x 0 1
     2, // exclusive-or 0 x 0 x
     2, // exclusive-or 0 x 0 D
     2, // exclusive-or 0 x 0 D-bar
     2, // exclusive-or 0 x 1 0
-    0, // exclusive-or 0 x 1 1
+    2, // exclusive-or 0 x 1 1
     2, // exclusive-or 0 x 1 x
     2, // exclusive-or 0 x 1 D
     2, // exclusive-or 0 x 1 D-bar
@@ -1339,9 +1339,9 @@ const TABLE: [u8; 1875] = [
     0, // exclusive-or 0 D 0 D
     1, // exclusive-or 0 D 0 D-bar
     4, // exclusive-or 0 D 1 0
-    0, // exclusive-or 0 D 1 1
+    3, // exclusive-or 0 D 1 1
     2, // exclusive-or 0 D 1 x
-    4, // exclusive-or 0 D 1 D
+    1, // exclusive-or 0 D 1 D
     0, // exclusive-or 0 D 1 D-bar
     2, // exclusive-or 0 D x 0
     2, // exclusive-or 0 D x 1
@@ -1349,9 +1349,9 @@ const TABLE: [u8; 1875] = [
     2, // exclusive-or 0 D x D
     2, // exclusive-or 0 D x D-bar
     0, // exclusive-or 0 D D 0
-    4, // exclusive-or 0 D D 1
+    1, // exclusive-or 0 D D 1
     2, // exclusive-or 0 D D x
-    0, // exclusive-or 0 D D D
+    3, // exclusive-or 0 D D D
     4, // exclusive-or 0 D D D-bar
     1, // exclusive-or 0 D D-bar 0
     0, // exclusive-or 0 D D-bar 1
@@ -1364,10 +1364,10 @@ const TABLE: [u8; 1875] = [
     1, // exclusive-or 0 D-bar 0 D
     0, // exclusive-or 0 D-bar 0 D-bar
     3, // exclusive-or 0 D-bar 1 0
-    0, // exclusive-or 0 D-bar 1 1
+    4, // exclusive-or 0 D-bar 1 1
     2, // exclusive-or 0 D-bar 1 x
     0, // exclusive-or 0 D-bar 1 D
-    3, // exclusive-or 0 D-bar 1 D-bar
+    1, // exclusive-or 0 D-bar 1 D-bar
     2, // exclusive-or 0 D-bar x 0
     2, // exclusive-or 0 D-bar x 1
     2, // exclusive-or 0 D-bar x x
@@ -1379,134 +1379,134 @@ const TABLE: [u8; 1875] = [
     4, // exclusive-or 0 D-bar D D
     3, // exclusive-or 0 D-bar D D-bar
     0, // exclusive-or 0 D-bar D-bar 0
-    3, // exclusive-or 0 D-bar D-bar 1
+    1, // exclusive-or 0 D-bar D-bar 1
     2, // exclusive-or 0 D-bar D-bar x
     3, // exclusive-or 0 D-bar D-bar D
-    0, // exclusive-or 0 D-bar D-bar D-bar
+    4, // exclusive-or 0 D-bar D-bar D-bar
     1, // exclusive-or 1 0 0 0
     0, // exclusive-or 1 0 0 1
     2, // exclusive-or 1 0 0 x
     4, // exclusive-or 1 0 0 D
     3, // exclusive-or 1 0 0 D-bar
     0, // exclusive-or 1 0 1 0
-    0, // exclusive-or 1 0 1 1
-    0, // exclusive-or 1 0 1 x
-    0, // exclusive-or 1 0 1 D
-    0, // exclusive-or 1 0 1 D-bar
+    1, // exclusive-or 1 0 1 1
+    2, // exclusive-or 1 0 1 x
+    3, // exclusive-or 1 0 1 D
+    4, // exclusive-or 1 0 1 D-bar
     2, // exclusive-or 1 0 x 0
-    0, // exclusive-or 1 0 x 1
+    2, // exclusive-or 1 0 x 1
     2, // exclusive-or 1 0 x x
     2, // exclusive-or 1 0 x D
     2, // exclusive-or 1 0 x D-bar
     4, // exclusive-or 1 0 D 0
-    0, // exclusive-or 1 0 D 1
+    3, // exclusive-or 1 0 D 1
     2, // exclusive-or 1 0 D x
-    4, // exclusive-or 1 0 D D
+    1, // exclusive-or 1 0 D D
     0, // exclusive-or 1 0 D D-bar
     3, // exclusive-or 1 0 D-bar 0
-    0, // exclusive-or 1 0 D-bar 1
+    4, // exclusive-or 1 0 D-bar 1
     2, // exclusive-or 1 0 D-bar x
     0, // exclusive-or 1 0 D-bar D
-    3, // exclusive-or 1 0 D-bar D-bar
+    1, // exclusive-or 1 0 D-bar D-bar
     0, // exclusive-or 1 1 0 0
-    0, // exclusive-or 1 1 0 1
-    0, // exclusive-or 1 1 0 x
-    0, // exclusive-or 1 1 0 D
-    0, // exclusive-or 1 1 0 D-bar
-    0, // exclusive-or 1 1 1 0
+    1, // exclusive-or 1 1 0 1
+    2, // exclusive-or 1 1 0 x
+    3, // exclusive-or 1 1 0 D
+    4, // exclusive-or 1 1 0 D-bar
+    1, // exclusive-or 1 1 1 0
     0, // exclusive-or 1 1 1 1
-    0, // exclusive-or 1 1 1 x
-    0, // exclusive-or 1 1 1 D
-    0, // exclusive-or 1 1 1 D-bar
-    0, // exclusive-or 1 1 x 0
-    0, // exclusive-or 1 1 x 1
-    0, // exclusive-or 1 1 x x
-    0, // exclusive-or 1 1 x D
-    0, // exclusive-or 1 1 x D-bar
-    0, // exclusive-or 1 1 D 0
-    0, // exclusive-or 1 1 D 1
-    0, // exclusive-or 1 1 D x
+    2, // exclusive-or 1 1 1 x
+    4, // exclusive-or 1 1 1 D
+    3, // exclusive-or 1 1 1 D-bar
+    2, // exclusive-or 1 1 x 0
+    2, // exclusive-or 1 1 x 1
+    2, // exclusive-or 1 1 x x
+    2, // exclusive-or 1 1 x D
+    2, // exclusive-or 1 1 x D-bar
+    3, // exclusive-or 1 1 D 0
+    4, // exclusive-or 1 1 D 1
+    2, // exclusive-or 1 1 D x
     0, // exclusive-or 1 1 D D
-    0, // exclusive-or 1 1 D D-bar
-    0, // exclusive-or 1 1 D-bar 0
-    0, // exclusive-or 1 1 D-bar 1
-    0, // exclusive-or 1 1 D-bar x
-    0, // exclusive-or 1 1 D-bar D
+    1, // exclusive-or 1 1 D D-bar
+    4, // exclusive-or 1 1 D-bar 0
+    3, // exclusive-or 1 1 D-bar 1
+    2, // exclusive-or 1 1 D-bar x
+    1, // exclusive-or 1 1 D-bar D
     0, // exclusive-or 1 1 D-bar D-bar
     2, // exclusive-or 1 x 0 0
-    0, // exclusive-or 1 x 0 1
+    2, // exclusive-or 1 x 0 1
     2, // exclusive-or 1 x 0 x
     2, // exclusive-or 1 x 0 D
     2, // exclusive-or 1 x 0 D-bar
-    0, // exclusive-or 1 x 1 0
-    0, // exclusive-or 1 x 1 1
-    0, // exclusive-or 1 x 1 x
-    0, // exclusive-or 1 x 1 D
-    0, // exclusive-or 1 x 1 D-bar
+    2, // exclusive-or 1 x 1 0
+    2, // exclusive-or 1 x 1 1
+    2, // exclusive-or 1 x 1 x
+    2, // exclusive-or 1 x 1 D
+    2, // exclusive-or 1 x 1 D-bar
     2, // exclusive-or 1 x x 0
-    0, // exclusive-or 1 x x 1
+    2, // exclusive-or 1 x x 1
     2, // exclusive-or 1 x x x
     2, // exclusive-or 1 x x D
     2, // exclusive-or 1 x x D-bar
     2, // exclusive-or 1 x D 0
-    0, // exclusive-or 1 x D 1
+    2, // exclusive-or 1 x D 1
     2, // exclusive-or 1 x D x
     2, // exclusive-or 1 x D D
-    0, // exclusive-or 1 x D D-bar
+    2, // exclusive-or 1 x D D-bar
     2, // exclusive-or 1 x D-bar 0
-    0, // exclusive-or 1 x D-bar 1
+    2, // exclusive-or 1 x D-bar 1
     2, // exclusive-or 1 x D-bar x
-    0, // exclusive-or 1 x D-bar D
+    2, // exclusive-or 1 x D-bar D
     2, // exclusive-or 1 x D-bar D-bar
     4, // exclusive-or 1 D 0 0
-    0, // exclusive-or 1 D 0 1
+    3, // exclusive-or 1 D 0 1
     2, // exclusive-or 1 D 0 x
-    4, // exclusive-or 1 D 0 D
+    1, // exclusive-or 1 D 0 D
     0, // exclusive-or 1 D 0 D-bar
-    0, // exclusive-or 1 D 1 0
-    0, // exclusive-or 1 D 1 1
-    0, // exclusive-or 1 D 1 x
+    3, // exclusive-or 1 D 1 0
+    4, // exclusive-or 1 D 1 1
+    2, // exclusive-or 1 D 1 x
     0, // exclusive-or 1 D 1 D
-    0, // exclusive-or 1 D 1 D-bar
+    1, // exclusive-or 1 D 1 D-bar
     2, // exclusive-or 1 D x 0
-    0, // exclusive-or 1 D x 1
+    2, // exclusive-or 1 D x 1
     2, // exclusive-or 1 D x x
     2, // exclusive-or 1 D x D
-    0, // exclusive-or 1 D x D-bar
-    4, // exclusive-or 1 D D 0
+    2, // exclusive-or 1 D x D-bar
+    1, // exclusive-or 1 D D 0
     0, // exclusive-or 1 D D 1
     2, // exclusive-or 1 D D x
     4, // exclusive-or 1 D D D
-    0, // exclusive-or 1 D D D-bar
+    3, // exclusive-or 1 D D D-bar
     0, // exclusive-or 1 D D-bar 0
-    0, // exclusive-or 1 D D-bar 1
-    0, // exclusive-or 1 D D-bar x
-    0, // exclusive-or 1 D D-bar D
-    0, // exclusive-or 1 D D-bar D-bar
+    1, // exclusive-or 1 D D-bar 1
+    2, // exclusive-or 1 D D-bar x
+    3, // exclusive-or 1 D D-bar D
+    4, // exclusive-or 1 D D-bar D-bar
     3, // exclusive-or 1 D-bar 0 0
-    0, // exclusive-or 1 D-bar 0 1
+    4, // exclusive-or 1 D-bar 0 1
     2, // exclusive-or 1 D-bar 0 x
     0, // exclusive-or 1 D-bar 0 D
-    3, // exclusive-or 1 D-bar 0 D-bar
-    0, // exclusive-or 1 D-bar 1 0
-    0, // exclusive-or 1 D-bar 1 1
-    0, // exclusive-or 1 D-bar 1 x
-    0, // exclusive-or 1 D-bar 1 D
+    1, // exclusive-or 1 D-bar 0 D-bar
+    4, // exclusive-or 1 D-bar 1 0
+    3, // exclusive-or 1 D-bar 1 1
+    2, // exclusive-or 1 D-bar 1 x
+    1, // exclusive-or 1 D-bar 1 D
     0, // exclusive-or 1 D-bar 1 D-bar
     2, // exclusive-or 1 D-bar x 0
-    0, // exclusive-or 1 D-bar x 1
+    2, // exclusive-or 1 D-bar x 1
     2, // exclusive-or 1 D-bar x x
-    0, // exclusive-or 1 D-bar x D
+    2, // exclusive-or 1 D-bar x D
     2, // exclusive-or 1 D-bar x D-bar
     0, // exclusive-or 1 D-bar D 0
-    0, // exclusive-or 1 D-bar D 1
-    0, // exclusive-or 1 D-bar D x
-    0, // exclusive-or 1 D-bar D D
-    0, // exclusive-or 1 D-bar D D-bar
-    3, // exclusive-or 1 D-bar D-bar 0
+    1, // exclusive-or 1 D-bar D 1
+    2, // exclusive-or 1 D-bar D x
+    3, // exclusive-or 1 D-bar D D
+    4, // exclusive-or 1 D-bar D D-bar
+    1, // exclusive-or 1 D-bar D-bar 0
     0, // exclusive-or 1 D-bar D-bar 1
     2, // exclusive-or 1 D-bar D-bar x
-    0, // exclusive-or 1 D-bar D-bar D
+    4, // exclusive-or 1 D-bar D-bar D
     3, // exclusive-or 1 D-bar D-bar D-bar
     2, // exclusive-or x 0 0 0
     2, // exclusive-or x 0 0 1
@@ -1514,7 +1514,7 @@ const TABLE: [u8; 1875] = [
     2, // exclusive-or x 0 0 D
     2, // exclusive-or x 0 0 D-bar
     2, // exclusive-or x 0 1 0
-    0, // exclusive-or x 0 1 1
+    2, // exclusive-or x 0 1 1
     2, // exclusive-or x 0 1 x
     2, // exclusive-or x 0 1 D
     2, // exclusive-or x 0 1 D-bar
@@ -1534,29 +1534,29 @@ const TABLE: [u8; 1875] = [
     2, // exclusive-or x 0 D-bar D
     2, // exclusive-or x 0 D-bar D-bar
     2, // exclusive-or x 1 0 0
-    0, // exclusive-or x 1 0 1
+    2, // exclusive-or x 1 0 1
     2, // exclusive-or x 1 0 x
     2, // exclusive-or x 1 0 D
     2, // exclusive-or x 1 0 D-bar
-    0, // exclusive-or x 1 1 0
-    0, // exclusive-or x 1 1 1
-    0, // exclusive-or x 1 1 x
-    0, // exclusive-or x 1 1 D
-    0, // exclusive-or x 1 1 D-bar
+    2, // exclusive-or x 1 1 0
+    2, // exclusive-or x 1 1 1
+    2, // exclusive-or x 1 1 x
+    2, // exclusive-or x 1 1 D
+    2, // exclusive-or x 1 1 D-bar
     2, // exclusive-or x 1 x 0
-    0, // exclusive-or x 1 x 1
+    2, // exclusive-or x 1 x 1
     2, // exclusive-or x 1 x x
     2, // exclusive-or x 1 x D
     2, // exclusive-or x 1 x D-bar
     2, // exclusive-or x 1 D 0
-    0, // exclusive-or x 1 D 1
+    2, // exclusive-or x 1 D 1
     2, // exclusive-or x 1 D x
     2, // exclusive-or x 1 D D
-    0, // exclusive-or x 1 D D-bar
+    2, // exclusive-or x 1 D D-bar
     2, // exclusive-or x 1 D-bar 0
-    0, // exclusive-or x 1 D-bar 1
+    2, // exclusive-or x 1 D-bar 1
     2, // exclusive-or x 1 D-bar x
-    0, // exclusive-or x 1 D-bar D
+    2, // exclusive-or x 1 D-bar D
     2, // exclusive-or x 1 D-bar D-bar
     2, // exclusive-or x x 0 0
     2, // exclusive-or x x 0 1
@@ -1564,7 +1564,7 @@ const TABLE: [u8; 1875] = [
     2, // exclusive-or x x 0 D
     2, // exclusive-or x x 0 D-bar
     2, // exclusive-or x x 1 0
-    0, // exclusive-or x x 1 1
+    2, // exclusive-or x x 1 1
     2, // exclusive-or x x 1 x
     2, // exclusive-or x x 1 D
     2, // exclusive-or x x 1 D-bar
@@ -1589,10 +1589,10 @@ const TABLE: [u8; 1875] = [
     2, // exclusive-or x D 0 D
     2, // exclusive-or x D 0 D-bar
     2, // exclusive-or x D 1 0
-    0, // exclusive-or x D 1 1
+    2, // exclusive-or x D 1 1
     2, // exclusive-or x D 1 x
     2, // exclusive-or x D 1 D
-    0, // exclusive-or x D 1 D-bar
+    2, // exclusive-or x D 1 D-bar
     2, // exclusive-or x D x 0
     2, // exclusive-or x D x 1
     2, // exclusive-or x D x x
@@ -1604,7 +1604,7 @@ const TABLE: [u8; 1875] = [
     2, // exclusive-or x D D D
     2, // exclusive-or x D D D-bar
     2, // exclusive-or x D D-bar 0
-    0, // exclusive-or x D D-bar 1
+    2, // exclusive-or x D D-bar 1
     2, // exclusive-or x D D-bar x
     2, // exclusive-or x D D-bar D
     2, // exclusive-or x D D-bar D-bar
@@ -1614,9 +1614,9 @@ const TABLE: [u8; 1875] = [
     2, // exclusive-or x D-bar 0 D
     2, // exclusive-or x D-bar 0 D-bar
     2, // exclusive-or x D-bar 1 0
-    0, // exclusive-or x D-bar 1 1
+    2, // exclusive-or x D-bar 1 1
     2, // exclusive-or x D-bar 1 x
-    0, // exclusive-or x D-bar 1 D
+    2, // exclusive-or x D-bar 1 D
     2, // exclusive-or x D-bar 1 D-bar
     2, // exclusive-or x D-bar x 0
     2, // exclusive-or x D-bar x 1
@@ -1624,7 +1624,7 @@ const TABLE: [u8; 1875] = [
     2, // exclusive-or x D-bar x D
     2, // exclusive-or x D-bar x D-bar
     2, // exclusive-or x D-bar D 0
-    0, // exclusive-or x D-bar D 1
+    2, // exclusive-or x D-bar D 1
     2, // exclusive-or x D-bar D x
     2, // exclusive-or x D-bar D D
     2, // exclusive-or x D-bar D D-bar
@@ -1639,9 +1639,9 @@ const TABLE: [u8; 1875] = [
     0, // exclusive-or D 0 0 D
     1, // exclusive-or D 0 0 D-bar
     4, // exclusive-or D 0 1 0
-    0, // exclusive-or D 0 1 1
+    3, // exclusive-or D 0 1 1
     2, // exclusive-or D 0 1 x
-    4, // exclusive-or D 0 1 D
+    1, // exclusive-or D 0 1 D
     0, // exclusive-or D 0 1 D-bar
     2, // exclusive-or D 0 x 0
     2, // exclusive-or D 0 x 1
@@ -1649,9 +1649,9 @@ const TABLE: [u8; 1875] = [
     2, // exclusive-or D 0 x D
     2, // exclusive-or D 0 x D-bar
     0, // exclusive-or D 0 D 0
-    4, // exclusive-or D 0 D 1
+    1, // exclusive-or D 0 D 1
     2, // exclusive-or D 0 D x
-    0, // exclusive-or D 0 D D
+    3, // exclusive-or D 0 D D
     4, // exclusive-or D 0 D D-bar
     1, // exclusive-or D 0 D-bar 0
     0, // exclusive-or D 0 D-bar 1
@@ -1659,40 +1659,40 @@ const TABLE: [u8; 1875] = [
     4, // exclusive-or D 0 D-bar D
     3, // exclusive-or D 0 D-bar D-bar
     4, // exclusive-or D 1 0 0
-    0, // exclusive-or D 1 0 1
+    3, // exclusive-or D 1 0 1
     2, // exclusive-or D 1 0 x
-    4, // exclusive-or D 1 0 D
+    1, // exclusive-or D 1 0 D
     0, // exclusive-or D 1 0 D-bar
-    0, // exclusive-or D 1 1 0
-    0, // exclusive-or D 1 1 1
-    0, // exclusive-or D 1 1 x
+    3, // exclusive-or D 1 1 0
+    4, // exclusive-or D 1 1 1
+    2, // exclusive-or D 1 1 x
     0, // exclusive-or D 1 1 D
-    0, // exclusive-or D 1 1 D-bar
+    1, // exclusive-or D 1 1 D-bar
     2, // exclusive-or D 1 x 0
-    0, // exclusive-or D 1 x 1
+    2, // exclusive-or D 1 x 1
     2, // exclusive-or D 1 x x
     2, // exclusive-or D 1 x D
-    0, // exclusive-or D 1 x D-bar
-    4, // exclusive-or D 1 D 0
+    2, // exclusive-or D 1 x D-bar
+    1, // exclusive-or D 1 D 0
     0, // exclusive-or D 1 D 1
     2, // exclusive-or D 1 D x
     4, // exclusive-or D 1 D D
-    0, // exclusive-or D 1 D D-bar
+    3, // exclusive-or D 1 D D-bar
     0, // exclusive-or D 1 D-bar 0
-    0, // exclusive-or D 1 D-bar 1
-    0, // exclusive-or D 1 D-bar x
-    0, // exclusive-or D 1 D-bar D
-    0, // exclusive-or D 1 D-bar D-bar
+    1, // exclusive-or D 1 D-bar 1
+    2, // exclusive-or D 1 D-bar x
+    3, // exclusive-or D 1 D-bar D
+    4, // exclusive-or D 1 D-bar D-bar
     2, // exclusive-or D x 0 0
     2, // exclusive-or D x 0 1
     2, // exclusive-or D x 0 x
     2, // exclusive-or D x 0 D
     2, // exclusive-or D x 0 D-bar
     2, // exclusive-or D x 1 0
-    0, // exclusive-or D x 1 1
+    2, // exclusive-or D x 1 1
     2, // exclusive-or D x 1 x
     2, // exclusive-or D x 1 D
-    0, // exclusive-or D x 1 D-bar
+    2, // exclusive-or D x 1 D-bar
     2, // exclusive-or D x x 0
     2, // exclusive-or D x x 1
     2, // exclusive-or D x x x
@@ -1704,34 +1704,34 @@ const TABLE: [u8; 1875] = [
     2, // exclusive-or D x D D
     2, // exclusive-or D x D D-bar
     2, // exclusive-or D x D-bar 0
-    0, // exclusive-or D x D-bar 1
+    2, // exclusive-or D x D-bar 1
     2, // exclusive-or D x D-bar x
     2, // exclusive-or D x D-bar D
     2, // exclusive-or D x D-bar D-bar
     0, // exclusive-or D D 0 0
-    4, // exclusive-or D D 0 1
+    1, // exclusive-or D D 0 1
     2, // exclusive-or D D 0 x
-    0, // exclusive-or D D 0 D
+    3, // exclusive-or D D 0 D
     4, // exclusive-or D D 0 D-bar
-    4, // exclusive-or D D 1 0
+    1, // exclusive-or D D 1 0
     0, // exclusive-or D D 1 1
     2, // exclusive-or D D 1 x
     4, // exclusive-or D D 1 D
-    0, // exclusive-or D D 1 D-bar
+    3, // exclusive-or D D 1 D-bar
     2, // exclusive-or D D x 0
     2, // exclusive-or D D x 1
     2, // exclusive-or D D x x
     2, // exclusive-or D D x D
     2, // exclusive-or D D x D-bar
-    0, // exclusive-or D D D 0
+    3, // exclusive-or D D D 0
     4, // exclusive-or D D D 1
     2, // exclusive-or D D D x
     0, // exclusive-or D D D D
-    4, // exclusive-or D D D D-bar
+    1, // exclusive-or D D D D-bar
     4, // exclusive-or D D D-bar 0
-    0, // exclusive-or D D D-bar 1
+    3, // exclusive-or D D D-bar 1
     2, // exclusive-or D D D-bar x
-    4, // exclusive-or D D D-bar D
+    1, // exclusive-or D D D-bar D
     0, // exclusive-or D D D-bar D-bar
     1, // exclusive-or D D-bar 0 0
     0, // exclusive-or D D-bar 0 1
@@ -1739,35 +1739,35 @@ const TABLE: [u8; 1875] = [
     4, // exclusive-or D D-bar 0 D
     3, // exclusive-or D D-bar 0 D-bar
     0, // exclusive-or D D-bar 1 0
-    0, // exclusive-or D D-bar 1 1
-    0, // exclusive-or D D-bar 1 x
-    0, // exclusive-or D D-bar 1 D
-    0, // exclusive-or D D-bar 1 D-bar
+    1, // exclusive-or D D-bar 1 1
+    2, // exclusive-or D D-bar 1 x
+    3, // exclusive-or D D-bar 1 D
+    4, // exclusive-or D D-bar 1 D-bar
     2, // exclusive-or D D-bar x 0
-    0, // exclusive-or D D-bar x 1
+    2, // exclusive-or D D-bar x 1
     2, // exclusive-or D D-bar x x
     2, // exclusive-or D D-bar x D
     2, // exclusive-or D D-bar x D-bar
     4, // exclusive-or D D-bar D 0
-    0, // exclusive-or D D-bar D 1
+    3, // exclusive-or D D-bar D 1
     2, // exclusive-or D D-bar D x
-    4, // exclusive-or D D-bar D D
+    1, // exclusive-or D D-bar D D
     0, // exclusive-or D D-bar D D-bar
     3, // exclusive-or D D-bar D-bar 0
-    0, // exclusive-or D D-bar D-bar 1
+    4, // exclusive-or D D-bar D-bar 1
     2, // exclusive-or D D-bar D-bar x
     0, // exclusive-or D D-bar D-bar D
-    3, // exclusive-or D D-bar D-bar D-bar
+    1, // exclusive-or D D-bar D-bar D-bar
     4, // exclusive-or D-bar 0 0 0
     3, // exclusive-or D-bar 0 0 1
     2, // exclusive-or D-bar 0 0 x
     1, // exclusive-or D-bar 0 0 D
     0, // exclusive-or D-bar 0 0 D-bar
     3, // exclusive-or D-bar 0 1 0
-    0, // exclusive-or D-bar 0 1 1
+    4, // exclusive-or D-bar 0 1 1
     2, // exclusive-or D-bar 0 1 x
     0, // exclusive-or D-bar 0 1 D
-    3, // exclusive-or D-bar 0 1 D-bar
+    1, // exclusive-or D-bar 0 1 D-bar
     2, // exclusive-or D-bar 0 x 0
     2, // exclusive-or D-bar 0 x 1
     2, // exclusive-or D-bar 0 x x
@@ -1779,34 +1779,34 @@ const TABLE: [u8; 1875] = [
     4, // exclusive-or D-bar 0 D D
     3, // exclusive-or D-bar 0 D D-bar
     0, // exclusive-or D-bar 0 D-bar 0
-    3, // exclusive-or D-bar 0 D-bar 1
+    1, // exclusive-or D-bar 0 D-bar 1
     2, // exclusive-or D-bar 0 D-bar x
     3, // exclusive-or D-bar 0 D-bar D
-    0, // exclusive-or D-bar 0 D-bar D-bar
+    4, // exclusive-or D-bar 0 D-bar D-bar
     3, // exclusive-or D-bar 1 0 0
-    0, // exclusive-or D-bar 1 0 1
+    4, // exclusive-or D-bar 1 0 1
     2, // exclusive-or D-bar 1 0 x
     0, // exclusive-or D-bar 1 0 D
-    3, // exclusive-or D-bar 1 0 D-bar
-    0, // exclusive-or D-bar 1 1 0
-    0, // exclusive-or D-bar 1 1 1
-    0, // exclusive-or D-bar 1 1 x
-    0, // exclusive-or D-bar 1 1 D
+    1, // exclusive-or D-bar 1 0 D-bar
+    4, // exclusive-or D-bar 1 1 0
+    3, // exclusive-or D-bar 1 1 1
+    2, // exclusive-or D-bar 1 1 x
+    1, // exclusive-or D-bar 1 1 D
     0, // exclusive-or D-bar 1 1 D-bar
     2, // exclusive-or D-bar 1 x 0
-    0, // exclusive-or D-bar 1 x 1
+    2, // exclusive-or D-bar 1 x 1
     2, // exclusive-or D-bar 1 x x
-    0, // exclusive-or D-bar 1 x D
+    2, // exclusive-or D-bar 1 x D
     2, // exclusive-or D-bar 1 x D-bar
     0, // exclusive-or D-bar 1 D 0
-    0, // exclusive-or D-bar 1 D 1
-    0, // exclusive-or D-bar 1 D x
-    0, // exclusive-or D-bar 1 D D
-    0, // exclusive-or D-bar 1 D D-bar
-    3, // exclusive-or D-bar 1 D-bar 0
+    1, // exclusive-or D-bar 1 D 1
+    2, // exclusive-or D-bar 1 D x
+    3, // exclusive-or D-bar 1 D D
+    4, // exclusive-or D-bar 1 D D-bar
+    1, // exclusive-or D-bar 1 D-bar 0
     0, // exclusive-or D-bar 1 D-bar 1
     2, // exclusive-or D-bar 1 D-bar x
-    0, // exclusive-or D-bar 1 D-bar D
+    4, // exclusive-or D-bar 1 D-bar D
     3, // exclusive-or D-bar 1 D-bar D-bar
     2, // exclusive-or D-bar x 0 0
     2, // exclusive-or D-bar x 0 1
@@ -1814,9 +1814,9 @@ const TABLE: [u8; 1875] = [
     2, // exclusive-or D-bar x 0 D
     2, // exclusive-or D-bar x 0 D-bar
     2, // exclusive-or D-bar x 1 0
-    0, // exclusive-or D-bar x 1 1
+    2, // exclusive-or D-bar x 1 1
     2, // exclusive-or D-bar x 1 x
-    0, // exclusive-or D-bar x 1 D
+    2, // exclusive-or D-bar x 1 D
     2, // exclusive-or D-bar x 1 D-bar
     2, // exclusive-or D-bar x x 0
     2, // exclusive-or D-bar x x 1
@@ -1824,7 +1824,7 @@ const TABLE: [u8; 1875] = [
     2, // exclusive-or D-bar x x D
     2, // exclusive-or D-bar x x D-bar
     2, // exclusive-or D-bar x D 0
-    0, // exclusive-or D-bar x D 1
+    2, // exclusive-or D-bar x D 1
     2, // exclusive-or D-bar x D x
     2, // exclusive-or D-bar x D D
     2, // exclusive-or D-bar x D D-bar
@@ -1839,34 +1839,34 @@ const TABLE: [u8; 1875] = [
     4, // exclusive-or D-bar D 0 D
     3, // exclusive-or D-bar D 0 D-bar
     0, // exclusive-or D-bar D 1 0
-    0, // exclusive-or D-bar D 1 1
-    0, // exclusive-or D-bar D 1 x
-    0, // exclusive-or D-bar D 1 D
-    0, // exclusive-or D-bar D 1 D-bar
+    1, // exclusive-or D-bar D 1 1
+    2, // exclusive-or D-bar D 1 x
+    3, // exclusive-or D-bar D 1 D
+    4, // exclusive-or D-bar D 1 D-bar
     2, // exclusive-or D-bar D x 0
-    0, // exclusive-or D-bar D x 1
+    2, // exclusive-or D-bar D x 1
     2, // exclusive-or D-bar D x x
     2, // exclusive-or D-bar D x D
     2, // exclusive-or D-bar D x D-bar
     4, // exclusive-or D-bar D D 0
-    0, // exclusive-or D-bar D D 1
+    3, // exclusive-or D-bar D D 1
     2, // exclusive-or D-bar D D x
-    4, // exclusive-or D-bar D D D
+    1, // exclusive-or D-bar D D D
     0, // exclusive-or D-bar D D D-bar
     3, // exclusive-or D-bar D D-bar 0
-    0, // exclusive-or D-bar D D-bar 1
+    4, // exclusive-or D-bar D D-bar 1
     2, // exclusive-or D-bar D D-bar x
     0, // exclusive-or D-bar D D-bar D
-    3, // exclusive-or D-bar D D-bar D-bar
+    1, // exclusive-or D-bar D D-bar D-bar
     0, // exclusive-or D-bar D-bar 0 0
-    3, // exclusive-or D-bar D-bar 0 1
+    1, // exclusive-or D-bar D-bar 0 1
     2, // exclusive-or D-bar D-bar 0 x
     3, // exclusive-or D-bar D-bar 0 D
-    0, // exclusive-or D-bar D-bar 0 D-bar
-    3, // exclusive-or D-bar D-bar 1 0
+    4, // exclusive-or D-bar D-bar 0 D-bar
+    1, // exclusive-or D-bar D-bar 1 0
     0, // exclusive-or D-bar D-bar 1 1
     2, // exclusive-or D-bar D-bar 1 x
-    0, // exclusive-or D-bar D-bar 1 D
+    4, // exclusive-or D-bar D-bar 1 D
     3, // exclusive-or D-bar D-bar 1 D-bar
     2, // exclusive-or D-bar D-bar x 0
     2, // exclusive-or D-bar D-bar x 1
@@ -1874,14 +1874,14 @@ const TABLE: [u8; 1875] = [
     2, // exclusive-or D-bar D-bar x D
     2, // exclusive-or D-bar D-bar x D-bar
     3, // exclusive-or D-bar D-bar D 0
-    0, // exclusive-or D-bar D-bar D 1
+    4, // exclusive-or D-bar D-bar D 1
     2, // exclusive-or D-bar D-bar D x
     0, // exclusive-or D-bar D-bar D D
-    3, // exclusive-or D-bar D-bar D D-bar
-    0, // exclusive-or D-bar D-bar D-bar 0
+    1, // exclusive-or D-bar D-bar D D-bar
+    4, // exclusive-or D-bar D-bar D-bar 0
     3, // exclusive-or D-bar D-bar D-bar 1
     2, // exclusive-or D-bar D-bar D-bar x
-    3, // exclusive-or D-bar D-bar D-bar D
+    1, // exclusive-or D-bar D-bar D-bar D
     0, // exclusive-or D-bar D-bar D-bar D-bar
 ];
 // tools/five-table.py: the table ends

@@ -21,8 +21,8 @@ pub fn gate_value(kind: usize, n: usize, s: usize) -> u8
 {
     let all = s == n;
     let some = 0 < s;
-    let one = s == 1;
-    let kinds = [false, all, !all, all, !all, some, !some, one, !one];
+    let odd = s % 2 == 1;
+    let kinds = [false, all, !all, all, !all, some, !some, odd, !odd];
     if kind < 9 { kinds[kind] as u8 } else { 0 }
 }
 

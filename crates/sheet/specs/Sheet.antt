@@ -1,4 +1,4 @@
--- The bench sheet: every starred number of document 01 and document 02's on board S, as what a call on the board's image must say or leave.
+-- The bench sheet: every starred number of document 01, two of them as W3 amends them, and W1's on board S, as what a call on the board's image must say or leave.
 use mathlib.Core.Path.{_≡_}
 use mathlib.Core.List.{List, [], _∷_, _++_, map}
 use Prim.Native.Nat.{ℕ}
@@ -67,9 +67,9 @@ sheet =
     ∷ starred (leaves 1 (alterPromise H (both (1 ∷ 0 ∷ 2 ∷ 0 ∷ 0 ∷ 1 ∷ 2 ∷ 0 ∷ []) (replicate 32 9)) 3 not1)) (1 ∷ 0 ∷ 2 ∷ 0 ∷ 0 ∷ 1 ∷ 0 ∷ 2 ∷ [])
     -- if entry 0 was 99 before, it is 99 after
     ∷ starred (leaves 1 (alterPromise H (both (99 ∷ 0 ∷ 2 ∷ 0 ∷ 0 ∷ 1 ∷ 2 ∷ 0 ∷ []) (replicate 32 9)) 3 not1)) (99 ∷ 0 ∷ 2 ∷ 0 ∷ 0 ∷ 1 ∷ 0 ∷ 2 ∷ [])
-    -- exclusive-or of 1,1,1 is 0; of 1,1,x it is 0
-    ∷ starred (leaves 0 (rowsPromise X 7 (Line 3 0) (9 ∷ 9 ∷ 9 ∷ 9 ∷ []) (9 ∷ 9 ∷ 9 ∷ 9 ∷ []))) (1 ∷ 1 ∷ 1 ∷ 0 ∷ [])
-    ∷ starred (leaves 0 (fivePromise X 3 3 (Line 2 0) (9 ∷ 9 ∷ 9 ∷ 9 ∷ []))) (1 ∷ 1 ∷ 2 ∷ 0 ∷ [])
+    -- exclusive-or of 1,1,1 is 1; of 1,1,x it is x
+    ∷ starred (leaves 0 (rowsPromise X 7 (Line 3 0) (9 ∷ 9 ∷ 9 ∷ 9 ∷ []) (9 ∷ 9 ∷ 9 ∷ 9 ∷ []))) (1 ∷ 1 ∷ 1 ∷ 1 ∷ [])
+    ∷ starred (leaves 0 (fivePromise X 3 3 (Line 2 0) (9 ∷ 9 ∷ 9 ∷ 9 ∷ []))) (1 ∷ 1 ∷ 2 ∷ 2 ∷ [])
     -- and of D, D-bar is 0; of D, x it is x
     ∷ starred (leaves 0 (fivePromise T-and 1 1 (Line 0 0) (9 ∷ 9 ∷ 9 ∷ []))) (3 ∷ 4 ∷ 0 ∷ [])
     ∷ starred (leaves 0 (fivePromise A 1 1 (Line 0 0) (9 ∷ 9 ∷ 9 ∷ []))) (3 ∷ 2 ∷ 2 ∷ [])

@@ -157,7 +157,7 @@ module _ (k w : ℕ) (settled : eqb w 2 ≡ false) (plain : goodHalf w ≡ fault
       let past : getD vs (length vs + m) w ≡ w = List·getD-eq-default vs w (omega arith) in
       rw (add-suc, past) (one-more (build (λ j before. getD vs j w) (length vs + m)) ∙ some-more vs m)
 
--- the sections' fillers: 1 where all pins are asked for, 0 where some or exactly one is
+-- the sections' fillers: 1 where all pins are asked for, 0 where some or an odd number is
 abbrev pub fillers : List ℕ
 fillers = 1 ∷ 0 ∷ 0 ∷ []
 
