@@ -4,13 +4,14 @@
     tests/compare.py                                  60,000 commands, as the gate runs it
     tests/compare.py --seed 7 --commands 2000000      millions of commands, from another seed
 
-It prints how often each answer and each refusal of each command arose, and of accepted alterations each sort of board, altered line and
-touched line, and fails where one of these arose fewer than 20 times. Its last line is 'N passed, M failed', where a part of a script
-counts one.
+It prints how often each answer and each refusal of each command arose, of accepted alterations each sort of board, altered line and
+touched line, and of exclusive-ors of three and four pins each call with a fault there, x on each pin by itself and three pins at 1. It
+fails where one of these arose fewer than 20 times. Its last line is 'N passed, M failed', where a part of a script counts one.
 """
 import argparse
 import collections
 import concurrent.futures
+import functools
 import select
 import shutil
 import subprocess
@@ -32,6 +33,7 @@ PAIRED = (b"lend", b"put", b"show", b"pin")
 COMMANDS = "load open save image lend put check rows judge find book alter refresh five show entries pin help".split()
 # commands whose last word is a fault; one on a pin has its own rows in the table
 WITH_FAULT = (b"rows", b"judge", b"find", b"five")
+ON_FAULT = [word.decode() + pin for word in WITH_FAULT for pin in ("", " pin")]
 IMAGE = [str(n) for n in range(1, 6)]
 # what each command can answer: forms of an accepted answer, then the refusals of its call, then '?'
 CAN_ANSWER = {
@@ -71,9 +73,10 @@ CAN_ANSWER = {
     "altered line": ["reaches none", "is an output and reaches another"],
     "touched": ["by the first output only", "by the last only", "by the 64th only", "before only", "after only",
                 *(f"through pin {pin} only" for pin in range(4))],
+    **{f"xor of {n} pins": [*ON_FAULT, "three at 1", *(f"x on pin {pin} only" for pin in range(n))] for n in (3, 4)},
 }
 # rows of the table that say more of an answer that another row has counted
-CLOSER = ("a bad record", "alter's 9", "altered board", "altered line", "touched")
+CLOSER = ("a bad record", "alter's 9", "altered board", "altered line", "touched", "xor of 3 pins", "xor of 4 pins")
 FIXED = (b"? line too long", b"? cannot read")
 
 
@@ -244,9 +247,31 @@ def of_alteration(before, after, line):
     return [form for form, holds in forms.items() if holds]
 
 
+@functools.lru_cache(maxsize=2)
+def exclusive_ors(image):
+    """The exclusive-ors of three and four pins on a good image's board."""
+    return shapes.board_of(image).exclusive_ors()
+
+
+def of_fault(image, name, command):
+    """What the table counts of an accepted call with a fault: one on an exclusive-or, by its pins."""
+    at = int(command.rsplit(b" ", 1)[1].split(b"/")[0].split(b".")[0])
+    return [(f"xor of {len(pins)} pins", name) for line, pins in exclusive_ors(image) if line == at]
+
+
+def of_row(image, row):
+    """What the table counts of a row that a call has filled: exclusive-ors with three pins at 1, and with x on one pin."""
+    for _, pins in exclusive_ors(image):
+        values, name = [row[pin] for pin in pins], f"xor of {len(pins)} pins"
+        if values.count(1) == 3:
+            yield name, "three at 1"
+        if values.count(2) == 1:
+            yield name, f"x on pin {values.index(2)} only"
+
+
 def counted(commands, answered):
     """How often each form of answer of each command arose."""
-    counts, lent, image = collections.Counter(), (0, 0, 0), None
+    counts, lent, image, filled = collections.Counter(), (0, 0, 0), None, False
     for command, answer in zip(commands, answered):
         name = command_name(command, answer)
         counts[name, form(command, answer)] += 1
@@ -260,6 +285,12 @@ def counted(commands, answered):
             before, after, line = alteration(image, command)
             counts.update(of_alteration(before, after, line))
             image = after.image()
+        if filled and command == b"show good 0" and image:
+            counts.update(of_row(image, bytes.fromhex(answer[4:].decode())))
+        accepted = name in ON_FAULT and not answer.startswith((b"refused ", b"? "))
+        if accepted and image:
+            counts.update(of_fault(image, name, command))
+        filled = accepted and name.startswith(("rows", "five"))
     return counts
 
 

@@ -531,6 +531,26 @@ def five_values(s):
     s.five(0, 0, *s.any_fault())
 
 
+def exclusive_ors(s):
+    """Exclusive-ors of three and four pins: both books, faults of their lines and of each pin, x on each pin by itself, and an alteration."""
+    s.load(shapes.exclusive_ors(s.rng))
+    s.book()
+    s.pin_book()
+    every = (1 << s.board.inputs) - 1
+    for line, pins in s.board.exclusive_ors():
+        for pin in (None, *range(len(pins))):
+            fault = line, s.stuck(), pin
+            s.find(*fault)
+            s.judge(s.pattern(), *fault)
+            s.rows(s.pattern(), *fault)
+            s.five(*s.partial(), *fault)
+        for below in pins:
+            if below < s.board.inputs:
+                named = every & ~(1 << below)
+                s.five(named, named & s.pattern(), *s.any_fault())
+    good_alteration(s, s.gate())
+
+
 def gate_tables(s):
     """Every gate on every choice of pins from five lines that hold 0, 1, x, D and D-bar: the whole five-value table."""
     pins = [chosen for count in (2, 3, 4) for chosen in itertools.product(range(5), repeat=count)]
@@ -671,7 +691,7 @@ def files(s):
 
 
 # the parts that every script begins and ends with, and each sort of part between them and how often it comes
-FIRST, LAST = (before_load, gate_tables), (few_shared,) * 3
+FIRST, LAST = (before_load, gate_tables), (exclusive_ors,) + (few_shared,) * 3
 PARTS = {
     exhaustive: 6, every_row: 6, largest: 2, many_inputs: 3, refusals: 8, every_refusal: 5, every_absent_pin: 4, every_book_length: 4,
     bad_image: 4, bad_boards: 5, damaged_image: 5, random_image: 3, alterations: 10, bench_sheet: 2, refreshes: 5, five_values: 5,

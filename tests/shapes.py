@@ -46,6 +46,10 @@ class Board:
                     bits[below] |= bits[line] if pin != left_out else 0
         return bits
 
+    def exclusive_ors(self):
+        """Its exclusive-ors of three and four pins, and their opposites: the line and the pins of each."""
+        return [(line, pins) for line, (kind, pins) in enumerate(self.records) if kind in (make.XOR, make.XNOR) and len(pins) > 2]
+
     def altered(self, line, record):
         """The board with another record on a line."""
         return Board([*self.records[:line], record, *self.records[line + 1:]], self.outputs, self.note)
@@ -238,6 +242,18 @@ def strands(rng):
     own = rng.randrange(inputs + 1)
     chosen = [*range(own), *rng.sample(ends, outputs - own)] if rng.random() < 0.8 else rng.sample(range(lines), outputs)
     return Board(records, sorted(chosen), a_note(rng))
+
+
+def exclusive_ors(rng):
+    """Exclusive-ors of three and four pins on inputs, then on any lines below, with ands and ors among these; no gate has a line twice."""
+    inputs = rng.randint(4, 5)
+    apart = lambda low, high, below: tuple(rng.sample(range(below), rng.randint(low, high)))
+    odd = lambda low, high, below: (rng.choice((make.XOR, make.XNOR)), apart(low, high, below))
+    records = [INPUT] * inputs + [odd(3, 3, inputs), odd(4, 4, inputs)]
+    for _ in range(rng.randint(4, 7)):
+        below = len(records)
+        records.append(odd(3, 4, below) if rng.random() < 0.5 else (rng.choice((make.AND, make.OR)), apart(2, 3, below)))
+    return Board(records, some_outputs(rng, len(records), 3), a_note(rng))
 
 
 def some_islands(rng):
