@@ -44,6 +44,7 @@ CASES = {
     "inputs alone": image([record(make.INPUT)] * 5, [1, 3]),
     "a line on two pins": image([record(make.INPUT), record(make.XOR, 0, 0)], [1]),
     "a gate that reaches no output": image([record(make.INPUT), record(make.AND, 0, 0), record(make.NOT, 0)], [2]),
+    "an exclusive-or of three that is an or": image([record(make.INPUT)] * 2 + [record(make.AND, 0, 1), record(make.XOR, 0, 1, 2)], [3]),
     "the empty image": b"",
     "no line": image([], [0]),
     "a trailer alone": make.T[-12:],
@@ -67,6 +68,9 @@ BY_HAND = {
                     b"4/0 none\n4/1 none\nfound 4 of 10\npins found 0 of 0\n",
     "a line on two pins": b"board 2 lines 1 inputs 1 outputs\n0/0 none\n0/1 none\n1/0 none\n1/1 0\nfound 1 of 4\n"
                           b"1.0/0 1\n1.0/1 0\n1.1/0 1\n1.1/1 0\npins found 4 of 4\n",
+    "an exclusive-or of three that is an or":
+        b"board 4 lines 2 inputs 1 outputs\n0/0 1\n0/1 0\n1/0 2\n1/1 0\n2/0 3\n2/1 0\n3/0 1\n3/1 0\nfound 8 of 8\n"
+        b"2.0/0 3\n2.0/1 2\n2.1/0 3\n2.1/1 1\n3.0/0 1\n3.0/1 0\n3.1/0 2\n3.1/1 0\n3.2/0 3\n3.2/1 0\npins found 10 of 10\n",
     "4 at 2.3": b"refused 4 at 2.3\n",
 }
 

@@ -14,7 +14,7 @@ import programs
 from shapes import make
 
 record, image, changed = make.record, make.image, make.changed
-INPUT, BUFFER, NOT, AND, OR, T = make.INPUT, make.BUFFER, make.NOT, make.AND, make.OR, make.T
+INPUT, BUFFER, NOT, AND, OR, XOR, XNOR, T = make.INPUT, make.BUFFER, make.NOT, make.AND, make.OR, make.XOR, make.XNOR, make.T
 NONE = 4294967295
 
 
@@ -404,6 +404,105 @@ ON_FEEDING = [
     ("pin entries", book("pins", (NONE, 8), (1, 1), (0, 1), (NONE, 6), (0, 1), (1, 1), (NONE, 6), (1, 1), (0, 1), (NONE, 6))),
 ]
 
+# document 02, W3: exclusive-or is 1 when an odd number of its pins is 1
+
+# three inputs; line 3 is their exclusive-or and line 4 its opposite
+ODD_OF_3 = image([record(INPUT)] * 3 + [record(XOR, 0, 1, 2), record(XNOR, 0, 1, 2)], [3, 4])
+ON_ODD_OF_3 = [
+    ("rows 7 3/0", "filled"),  # 1,1,1
+    ("show good 0", "row 0101010100"),
+    ("show faulty 0", "row 0101010000"),
+    ("rows 3 3.2/1", "filled"),  # 1,1,0, and 1,1,1 for line 3's gate
+    ("show good 0", "row 0101000001"),
+    ("show faulty 0", "row 0101000101"),
+    ("rows 4 4/0", "filled"),  # 0,0,1
+    ("show good 0", "row 0000010100"),
+    ("judge 7 3/0", "yes"),
+    ("judge 7 3/1", "no"),
+    ("judge 7 4/0", "no"),
+    ("judge 7 4/1", "yes"),
+    ("judge 7 3.0/0", "yes"),
+    ("judge 7 3.1/0", "yes"),
+    ("judge 7 4.2/0", "yes"),
+    ("judge 7 4.2/1", "no"),
+    ("five 3 3 2/0", "drives 0"),  # 1,1,x
+    ("show good 0", "row 0101020202"),
+    ("five 5 5 3/1", "drives 0"),  # 1,x,1
+    ("show good 0", "row 0102010202"),
+    ("five 6 6 4/1", "drives 0"),  # x,1,1
+    ("show good 0", "row 0201010202"),
+    ("five 7 7 2/0", "drives 2"),  # 1,1,D
+    ("show good 0", "row 0101030304"),
+    ("five 7 3 2/1", "drives 2"),  # 1,1,D-bar
+    ("show good 0", "row 0101040403"),
+    ("five 7 7 3.1/0", "drives 1"),  # line 3's gate reads 1,D,1
+    ("show good 0", "row 0101010300"),
+    ("five 5 5 3.1/0", "drives 0"),  # an x on the held pin stays x
+    ("show good 0", "row 0102010202"),
+    ("five 6 6 4.2/0", "drives 0"),  # x,1,D
+    ("show good 0", "row 0201010202"),
+]
+
+# four inputs; line 4 is their exclusive-or and line 5 its opposite
+ODD_OF_4 = image([record(INPUT)] * 4 + [record(XOR, 0, 1, 2, 3), record(XNOR, 0, 1, 2, 3)], [4, 5])
+ON_ODD_OF_4 = [
+    ("rows 15 4/1", "filled"),  # 1,1,1,1
+    ("show good 4", "row 0001"),
+    ("show faulty 4", "row 0101"),
+    ("rows 7 4/1", "filled"),  # three at 1, each pin in turn at 0
+    ("show good 4", "row 0100"),
+    ("rows 11 4/1", "filled"),
+    ("show good 4", "row 0100"),
+    ("rows 13 4/1", "filled"),
+    ("show good 4", "row 0100"),
+    ("rows 14 4/1", "filled"),
+    ("show good 4", "row 0100"),
+    ("rows 9 4/1", "filled"),  # two at 1
+    ("show good 4", "row 0001"),
+    ("rows 8 4/1", "filled"),  # the last pin alone
+    ("show good 4", "row 0100"),
+    ("judge 15 4.3/0", "yes"),
+    ("judge 7 4.3/1", "yes"),
+    ("judge 15 5.3/0", "yes"),
+    ("judge 7 5.3/0", "no"),
+    ("five 14 14 4/0", "drives 0"),  # x,1,1,1
+    ("show good 0", "row 020101010202"),
+    ("five 13 13 4/0", "drives 0"),  # 1,x,1,1
+    ("show good 0", "row 010201010202"),
+    ("five 11 11 4/0", "drives 0"),  # 1,1,x,1
+    ("show good 0", "row 010102010202"),
+    ("five 7 7 4/0", "drives 0"),  # 1,1,1,x
+    ("show good 0", "row 010101020202"),
+    ("five 15 15 3/0", "drives 2"),  # 1,1,1,D
+    ("show good 0", "row 010101030403"),
+    ("five 15 7 5.3/1", "drives 1"),  # line 5's gate reads 1,1,1,D-bar
+    ("show good 0", "row 010101000104"),
+    ("find 3/0", "8"),
+    ("find 4.3/0", "8"),
+    ("find 5.3/1", "0"),
+    ("book", "found 12 of 12"),
+    ("entries", "entries 1 0 2 0 4 0 8 0 1 0 0 1"),
+    ("pin book", "found 16 of 48"),
+    ("pin entries", book("pins", (NONE, 32)) + " 1 0 2 0 4 0 8 0" * 2),
+]
+
+# two inputs; line 2 is their and, line 3 the exclusive-or of all three, which is so the or of the inputs. Both pins at 1 put all three at 1
+ODD_OR = image([record(INPUT)] * 2 + [record(AND, 0, 1), record(XOR, 0, 1, 2)], [3])
+ON_ODD_OR = [
+    ("find 2/0", "3"),
+    ("find 2.0/0", "3"),
+    ("find 3.2/0", "3"),
+    ("book", "found 8 of 8"),
+    ("entries", "entries 1 0 2 0 3 0 1 0"),
+    ("pin book", "found 10 of 32"),
+    ("pin entries", book("pins", (NONE, 16), (3, 1), (2, 1), (3, 1), (1, 1), (NONE, 4), (1, 1), (0, 1), (2, 1), (0, 1), (3, 1), (0, 1), (NONE, 2))),
+    ("alter 3 08030000010002000000", "found 18 of 40"),  # its opposite, a nor
+    ("entries", "entries 1 0 2 0 3 0 0 1"),
+    ("alter 2 07020000010000000000", "found 13 of 40"),  # line 2 as xor(0,1): then line 3 reads an even number of 1s, and is always 1
+    ("entries", book("entries", (NONE, 4), (1, 1), (0, 1), (0, 1), (NONE, 1))),
+    ("pin entries", book("pins", (NONE, 16), (1, 1), (0, 1), (2, 1), (0, 1), (NONE, 4), (1, 1), (0, 1), (2, 1), (0, 1), (1, 1), (0, 1), (NONE, 2))),
+]
+
 BEFORE_LOAD = [("pin entries", "pins"), ("pin book", "refused 1"), ("find 0.0/0", "refused 1"), ("put pin 0 1", "?")]
 # a board's name and image, what Check says of it, and what is asked of it
 S_COUNTS, T_COUNTS = "board 12 lines 4 inputs 1 outputs", "board 3 lines 1 inputs 1 outputs"
@@ -423,6 +522,9 @@ ASKED = [
     ("D", D, "board 512 lines 2 inputs 64 outputs", ON_D),
     ("inputs as outputs", INPUTS_OUT, "board 4 lines 2 inputs 3 outputs", ON_INPUTS_OUT),
     ("outputs that feed", FEEDING, "board 4 lines 1 inputs 3 outputs", ON_FEEDING),
+    ("exclusive-or of 3", ODD_OF_3, "board 5 lines 3 inputs 2 outputs", ON_ODD_OF_3),
+    ("exclusive-or of 4", ODD_OF_4, "board 6 lines 4 inputs 2 outputs", ON_ODD_OF_4),
+    ("exclusive-or as or", ODD_OR, "board 4 lines 2 inputs 1 outputs", ON_ODD_OR),
 ]
 
 
