@@ -1,5 +1,5 @@
 /* The exported calls from C: every refusal on board T, with its number and values and nothing lent changed; the fault's numbers as each call
-   that takes them hears them; both books. bindings boards
+   that takes them hears them; both books; exclusive-or of three. bindings boards
    Its last line is 'N passed, M failed'. */
 #include "../bindings/c/fortizembo.h"
 #include <inttypes.h>
@@ -382,6 +382,24 @@ static void pin_book_of_t(const board *t)
     check(gives(fortizembo_pin_book(t->bytes, t->length, entries, 24), 3) && memcmp(entries, pins, sizeof pins) == 0, "pin_book", "T");
 }
 
+/* Three inputs and their exclusive-or, line 3, which is the output. */
+static const uint8_t odd[54] = {
+    0, 0, 0, 0, 0, 0, 0, 0, 0, 0, 0, 0, 0, 0, 0, 0, 0, 0, 0, 0, 0, 0, 0, 0, 0, 0, 0, 0, 0, 0, 7, 3, 0, 0, 1, 0, 2, 0, 0, 0,
+    3, 0, 4, 0, 1, 0, 54, 0, 0, 0, 0x42, 0x52, 0x44, 0x31,
+};
+
+/* Exclusive-or is odd: of 1,1,1 it is 1, of 1,1,0 it is 0, and of 1,1,x it is x. */
+static void exclusive_or(void)
+{
+    static const uint8_t ones[4] = {1, 1, 1, 1}, unsettled[4] = {1, 1, 2, 2};
+    uint8_t good[4], faulty[4];
+    const fortizembo_answer a = fortizembo_rows(odd, sizeof odd, 7, fortizembo_pin_fault(3, 2, 0), good, 4, faulty, 4);
+    check(a.number == 0 && memcmp(good, ones, 4) == 0 && faulty[3] == 0, "rows", "exclusive-or of 1,1,1 and of 1,1,0");
+    check(gives(fortizembo_judge(odd, sizeof odd, 7, fortizembo_line_fault(3, 0)), 1), "judge", "exclusive-or of 1,1,1");
+    check(gives(fortizembo_five(odd, sizeof odd, 3, 3, fortizembo_line_fault(2, 0), good, 4), 0) && memcmp(good, unsettled, 4) == 0,
+          "five", "exclusive-or of 1,1,x");
+}
+
 /* A sample board, with length 0 where it cannot be read. */
 static board load(const char *folder, const char *name)
 {
@@ -418,6 +436,7 @@ int main(int argc, char **argv)
     faults_of_s(&s);
     pin_book_of_t(&t);
     alterations(&t, &h);
+    exclusive_or();
     printf("%d passed, %d failed\n", passed, failed);
     return failed != 0;
 }

@@ -121,6 +121,22 @@ fn five_values_of_pins_of_t() {
     assert_eq!(row, [2, 2, 2]);
 }
 
+/// Three inputs and their exclusive-or, line 3, which is the output.
+const ODD: [u8; 54] = [
+    0, 0, 0, 0, 0, 0, 0, 0, 0, 0, 0, 0, 0, 0, 0, 0, 0, 0, 0, 0, 0, 0, 0, 0, 0, 0, 0, 0, 0, 0, //
+    7, 3, 0, 0, 1, 0, 2, 0, 0, 0, 3, 0, 4, 0, 1, 0, 54, 0, 0, 0, 0x42, 0x52, 0x44, 0x31,
+];
+
+#[test]
+fn exclusive_or_is_odd() {
+    let (mut good, mut faulty) = ([9; 4], [9; 4]);
+    assert_eq!(rows(&ODD, 7, pin_at(3, 2, 0), &mut good, &mut faulty), Filled::Done);
+    assert_eq!((good, faulty), ([1, 1, 1, 1], [1, 1, 1, 0]));
+    assert_eq!(judge(&ODD, 7, at(3, 0)), Judged::Yes);
+    assert_eq!(five(&ODD, 3, 3, at(2, 0), &mut good), Driven::Count(0));
+    assert_eq!(good, [1, 1, 2, 2]);
+}
+
 #[test]
 fn books_of_t_and_t_altered() {
     let (mut t, mut entries, mut pin_entries) = (board("T"), [7; 6], [7; 24]);
