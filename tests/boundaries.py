@@ -486,7 +486,7 @@ ON_ODD_OF_4 = [
     ("pin entries", book("pins", (NONE, 32)) + " 1 0 2 0 4 0 8 0" * 2),
 ]
 
-# two inputs; line 2 is their and, line 3 the exclusive-or of all three, which is so the or of the inputs. Both pins at 1 put all three at 1
+# two inputs; line 2 is their and, line 3 the exclusive-or of all three, which is so the or of the inputs: both at 1 put all three at 1
 ODD_OR = image([record(INPUT)] * 2 + [record(AND, 0, 1), record(XOR, 0, 1, 2)], [3])
 ON_ODD_OR = [
     ("find 2/0", "3"),
