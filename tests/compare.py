@@ -34,6 +34,8 @@ COMMANDS = "load open save image lend put check rows judge find book alter refre
 # commands whose last word is a fault; one on a pin has its own rows in the table
 WITH_FAULT = (b"rows", b"judge", b"find", b"five")
 ON_FAULT = [word.decode() + pin for word in WITH_FAULT for pin in ("", " pin")]
+# the table's rows of exclusive-ors, by their pins
+XORS = {n: f"xor of {n} pins" for n in (3, 4)}
 IMAGE = [str(n) for n in range(1, 6)]
 # what each command can answer: forms of an accepted answer, then the refusals of its call, then '?'
 CAN_ANSWER = {
@@ -73,10 +75,10 @@ CAN_ANSWER = {
     "altered line": ["reaches none", "is an output and reaches another"],
     "touched": ["by the first output only", "by the last only", "by the 64th only", "before only", "after only",
                 *(f"through pin {pin} only" for pin in range(4))],
-    **{f"xor of {n} pins": [*ON_FAULT, "three at 1", *(f"x on pin {pin} only" for pin in range(n))] for n in (3, 4)},
+    **{name: [*ON_FAULT, "three at 1", *(f"x on pin {pin} only" for pin in range(n))] for n, name in XORS.items()},
 }
 # rows of the table that say more of an answer that another row has counted
-CLOSER = ("a bad record", "alter's 9", "altered board", "altered line", "touched", "xor of 3 pins", "xor of 4 pins")
+CLOSER = ("a bad record", "alter's 9", "altered board", "altered line", "touched", *XORS.values())
 FIXED = (b"? line too long", b"? cannot read")
 
 
@@ -256,17 +258,17 @@ def exclusive_ors(image):
 def of_fault(image, name, command):
     """What the table counts of an accepted call with a fault: one on an exclusive-or, by its pins."""
     at = int(command.rsplit(b" ", 1)[1].split(b"/")[0].split(b".")[0])
-    return [(f"xor of {len(pins)} pins", name) for line, pins in exclusive_ors(image) if line == at]
+    return [(XORS[len(pins)], name) for line, pins in exclusive_ors(image) if line == at]
 
 
 def of_row(image, row):
     """What the table counts of a row that a call has filled: exclusive-ors with three pins at 1, and with x on one pin."""
     for _, pins in exclusive_ors(image):
-        values, name = [row[pin] for pin in pins], f"xor of {len(pins)} pins"
+        values = [row[pin] for pin in pins]
         if values.count(1) == 3:
-            yield name, "three at 1"
+            yield XORS[len(pins)], "three at 1"
         if values.count(2) == 1:
-            yield name, f"x on pin {values.index(2)} only"
+            yield XORS[len(pins)], f"x on pin {values.index(2)} only"
 
 
 def counted(commands, answered):
