@@ -290,7 +290,7 @@ GROUPS = {
     MOSTLY_NONE: {name: family(20) for name, family in MOST_NONE.items()},
 }
 GROWTH = {
-    "more inputs": {f"adder, {inputs} inputs": adder(inputs) for inputs in range(4, 25, 4)},
+    "more inputs": {f"plain adder, {inputs} inputs": plain_adder(inputs) for inputs in range(4, 25, 4)},
     "more inputs, most faults none": {f"voted adder, {inputs} inputs": voted_adder(inputs) for inputs in range(4, 21, 4)},
     "more lines": {f"random, {lines} lines": scattered(16, lines) for lines in (64, 128, 192, 256, 384, 512)},
 }

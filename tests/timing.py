@@ -1,6 +1,7 @@
 """Books timed at the console: ours and the obvious way's, with every answer of the two compared.
 
-A program is started, takes the board, and is then asked for the same book again and again, so that its start does not count. Where the
+A program is started, takes the board, and is then asked for the same book again and again, so that its start does not count. Seconds are
+those that the program has the processor, so that nothing else on the machine counts; both programs run in one thread. Where the
 obvious way would take too long its time is worked out by one rule: the seconds that it takes for a pattern, measured over the first
 patterns of every fault, times the number of patterns that it would try. That number is known from the finished book: for a fault with
 an entry the entry and 1 more, for one with none every pattern of the board.
@@ -14,15 +15,15 @@ NONE = 2**32 - 1
 BOOKS = ("book", "entries"), ("pin book", "pin entries")
 # how often a book is filled in one round at most, so that all answers fit a pipe
 MOST = 2_000
-# patterns for each fault in the look by which a part is chosen
-LOOK = 8
+# patterns in all in the first look, by which it is decided what can be run whole, and how large a part else
+LOOK = 20_000
 
 
 @dataclasses.dataclass
 class Pace:
     """Seconds that the obvious way may take for a whole book, and for a part of one; a quick book is filled again until a round takes
     `enough` seconds, and the best of some rounds counts."""
-    whole: float = 6
+    whole: float = 30
     part: float = 1
     enough: float = 0.3
     rounds: int = 3
@@ -41,27 +42,30 @@ class Console:
     def __init__(self, words):
         """Starts the program."""
         self.process = subprocess.Popen(words, stdin=subprocess.PIPE, stdout=subprocess.PIPE, text=True)
+        # Linux's number for the clock of another process
+        self.clock = ~self.process.pid << 3 | 2
 
     def __enter__(self):
+        """The console itself."""
         return self
 
     def __exit__(self, *_):
+        """Ends the program."""
         self.process.kill()
         self.process.communicate()
 
     def ask(self, command, times=1):
         """The seconds that a command takes, so many times over, and its last answer."""
-        start = time.perf_counter()
+        start = time.clock_gettime(self.clock)
         try:
             self.process.stdin.write(f"{command}\n" * times)
             self.process.stdin.flush()
         except BrokenPipeError:
             raise Differs(f"the program ended before {command[:20]!r}") from None
         answers = [self.process.stdout.readline() for _ in range(times)]
-        seconds = time.perf_counter() - start
         if not answers[-1]:
             raise Differs(f"the program ended at {command[:20]!r}")
-        return seconds, answers[-1].rstrip("\n")
+        return time.clock_gettime(self.clock) - start, answers[-1].rstrip("\n")
 
     def once(self, command, pace):
         """The seconds that a command takes one time, over as many times as it needs to be measured well, and its answer."""
@@ -80,7 +84,7 @@ class Book:
     obvious: float
     ours: float
     worked_out: bool
-    # seconds for a pattern by the rule over seconds for a pattern of the whole, where both were measured
+    # the seconds by the rule over those of the whole, where both were measured
     rule: float = None
 
     def joined(self, other):
@@ -134,8 +138,9 @@ class Asked:
         same(self.list, self.listed, obvious.ask(self.list)[1])
         return seconds
 
-    def a_pattern(self, words, most):
-        """The obvious way's seconds for a pattern, over so many for each fault; what it finds with them is compared."""
+    def a_pattern(self, words, patterns):
+        """The obvious way's seconds for a pattern, over some so many in all, as many for each fault; what it finds with them is compared."""
+        most = most_within(self.faults, self.patterns, patterns)
         count = tried(self.faults, self.patterns, most)
         with Console([*words, "part", str(most)]) as obvious:
             obvious.ask(f"load {self.image}")
@@ -146,9 +151,10 @@ class Asked:
 
 
 class Timing:
-    """The two programs, by the words that start them, and the pace at which they are timed."""
+    """The two programs and the pace at which they are timed."""
 
     def __init__(self, product, obvious, pace):
+        """`product` and `obvious` are the words that start the programs."""
         self.product, self.obvious, self.pace = product, obvious, pace
 
     def board(self, board):
@@ -164,12 +170,9 @@ class Timing:
         """One book of a board: by the obvious way whole where there is time for that, and else in part."""
         seconds, said = ours.once(names[0], self.pace)
         asked = Asked(names, board, used, said, ours.ask(names[1])[1])
-        a_pattern, rule = asked.a_pattern(self.obvious, LOOK), None
-        worked_out = asked.total * a_pattern > self.pace.whole
-        if worked_out:
-            most = most_within(asked.faults, asked.patterns, self.pace.part / a_pattern)
-            slow = asked.total * asked.a_pattern(self.obvious, most)
-        else:
-            slow = asked.whole(obvious, self.pace)
-            rule = asked.total * asked.a_pattern(self.obvious, max(LOOK, asked.patterns // 16)) / slow if slow > 1 else None
-        return Book(len(asked.faults), asked.none, slow, seconds, worked_out, rule)
+        guess = asked.a_pattern(self.obvious, LOOK)
+        by_rule = lambda: asked.total * asked.a_pattern(self.obvious, self.pace.part / guess)
+        if asked.total * guess > self.pace.whole:
+            return Book(len(asked.faults), asked.none, by_rule(), seconds, True)
+        slow = asked.whole(obvious, self.pace)
+        return Book(len(asked.faults), asked.none, slow, seconds, False, by_rule() / slow if slow > 1 else None)
