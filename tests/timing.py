@@ -71,7 +71,7 @@ class Console:
         """The seconds that a command takes one time, over as many times as it needs to be measured well, and its answer."""
         seconds, answer = self.ask(command)
         if seconds < pace.enough:
-            times = min(MOST, int(pace.enough / seconds) + 1)
+            times = min(MOST, int(pace.enough / max(seconds, 1e-6)) + 1)
             seconds = min(self.ask(command, times)[0] for _ in range(pace.rounds)) / times
         return seconds, answer
 
