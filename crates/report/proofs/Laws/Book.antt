@@ -14,11 +14,9 @@ use Rattle.board.specs.Book.{entriesALine, found}
 use Rattle.board.specs.declared.Sort.{Sort}
 use Rattle.board.specs.declared.Sort.the-variants.{Lines, Pins}
 use Rattle.board.proofs.Lists.{build-length}
-use Rattle.image.specs.Image.{lineCount, recordPlace, boardOf}
+use Rattle.image.specs.Image.{lineCount, boardOf}
 use Rattle.image.specs.Refusals.{imageRefusals, firstRefusal, Accepted}
 use Rattle.image.specs.declared.Refusal.{Refusal}
-use Rattle.image.proofs.Laws.Fine.{passed, four-pins, field-good}
-use Rattle.image.proofs.Laws.Line.{pin-count}
 use Rattle.find.specs.Book.{bookOf}
 use Rattle.report.specs.Book.{totalText, pinsOf, faultsOf, entryLine, entryLines, bookLines, RestOf}
 
@@ -64,10 +62,6 @@ module _ (sort : Sort) where
           inside = simp length-append (omega arith);
           filled = λ l. record { ok = ok; is = rw same (take-at front more entries long ∙ is); counted = count; of-all = every };
         }
-
--- no line uses more than four pins
-pub four-used : (s : List ℕ) → Accepted s → (i : ℕ) → i < lineCount s → length (recordOf (boardOf s) i .pins) ≤ 4
-four-used s ok i l = rw (← (pin-count s i l)) (four-pins s (recordPlace s i) i _ (λ f m. field-good s (passed s ok) i f l m))
 
 -- the pins that are used by the lines from i on, one line more at a time
 module _ (b : Board) (i used : ℕ) (before : used + pinsOf (drop i (b .lines)) ≡ pinsOf (b .lines)) where

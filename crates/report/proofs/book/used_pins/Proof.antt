@@ -4,9 +4,9 @@ use Prim.Native.Nat.{_+_, _*_, _-_, _≤_}
 use native.Mathlib.Omega.{arith}
 use lib.ListN.{drop}
 use Rattle.image.specs.Image.{boardOf}
-use Rattle.image.proofs.Laws.Fine.{lines-few, line-count}
+use Rattle.image.proofs.Laws.Fine.{lines-few, line-count, four-used, accepted-fine}
 use Rattle.report.specs.Book.{pinsOf}
-use Rattle.report.proofs.Laws.Book.{four-used, used-more, used-all}
+use Rattle.report.proofs.Laws.Book.{used-more, used-all}
 use borrow.Author.Needs.{needs}
 use Rattle.report.proofs.book.used_pins.Statement.{statement}
 use Rattle.report.proofs.book.used_pins.Tie as tie
@@ -22,7 +22,7 @@ few : (c : tie.After-pin-count Inv-loop μ-loop) → c .pin-count .result ≤ 4
 few c =
     let test = c .before in
     let start = test .before .before .before in
-    rw (c .pin-count .ensures) (four-used _ (start .pre .0) _ (omega (arith, test .loop-test .taken, start .pre .1)))
+    rw (c .pin-count .ensures) (four-used (accepted-fine _ (start .pre .0)) _ (omega (arith, test .loop-test .taken, start .pre .1, line-count (start .args .img .now))))
 
 pin-count-requires : tie.Need-pin-count-requires Inv-loop μ-loop
 pin-count-requires c κs =
