@@ -1,0 +1,11 @@
+pub mod Through
+pub mod Lane
+pub mod Row
+pub mod Eight
+pub mod Lowest
+pub mod Join
+pub mod Fill
+pub mod Pass
+pub mod Flip
+pub mod Own
+pub mod Flat
