@@ -1,2 +1,4 @@
 pub mod Book
 pub mod Calls
+pub mod Blocks
+pub mod Parts

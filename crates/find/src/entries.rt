@@ -1,7 +1,6 @@
 // A book's entries: those of marked lines are worked out, and for a fresh book every line is marked.
-use crate::search::Answer;
-use crate::search::smallest;
-use board::Condition;
+use crate::search::every_line;
+use crate::search::try_all;
 use board::Sort;
 use board::entries_a_line;
 use board::fault_at;
@@ -14,7 +13,6 @@ use image::limits::Entry;
 use image::limits::MOST_LINES;
 use image::limits::NONE;
 use image::numbers::byte;
-use image::pins::is_absent;
 ghost use mathlib.Core.Path.{_≡_};
 ghost use mathlib.Core.Option.{Option};
 ghost use mathlib.Core.Bool.{cond};
@@ -22,14 +20,13 @@ ghost use mathlib.Core.List.{List};
 ghost use Prim.Native.Nat.{ℕ, _*_, _<_};
 ghost use lib.ListN.{length, getD};
 ghost use Rattle.board.specs.Lists.{somewhere, on};
-ghost use Rattle.board.specs.Limits.{mostLines};
-ghost use Rattle.board.specs.Test.{find as smallestOf};
-ghost use Rattle.board.specs.Book.{entriesALine, entry, found};
-ghost use Rattle.image.specs.Image.{lineCount, boardOf};
+ghost use Rattle.board.specs.Limits.{mostLines, noneMark};
+ghost use Rattle.board.specs.Book.{entriesALine, found};
+ghost use Rattle.image.specs.Image.{lineCount};
 ghost use Rattle.image.specs.Calls.{_then_};
-ghost use Rattle.image.specs.Inner.{Known, OnBoard, Past};
+ghost use Rattle.image.specs.Inner.{Known, Past};
 ghost use Rattle.image.specs.declared.Refusal.{Refusal as RefusalOf};
-ghost use Rattle.find.specs.Inner.{answered, Renewable, Renewed};
+ghost use Rattle.find.specs.Inner.{Renewable, Renewed, Cleared};
 ghost use Rattle.find.specs.Book.{badBook, bookOf};
 
 // Those that were tested, then 9 for a book of so many numbers.
@@ -47,28 +44,6 @@ pub fn then_book(tested: Checked, sort: Sort, numbers: usize) -> Checked
             )
         }
     }
-}
-
-// The number in a book for an answer.
-fn entry_of(a: Answer) -> Entry
-    ensures { λ r. ⌜ r ≡ entry (answered a) ⌝ }
-{
-    match a {
-        Answer::At(p) => p,
-        Answer::Nothing => NONE,
-    }
-}
-
-// A fault's entry: where its line is marked it is worked out, none without a search for an absent pin; its old number where it is not.
-fn renew_entry(img: &[u8], counts: Counts, condition: Condition, marked: bool, old: Entry) -> Entry
-    requires { ⌜ Known (now img) counts × OnBoard (now img) condition ⌝ }
-    ensures { λ r. ⌜ r ≡ cond marked (entry (smallestOf (boardOf (now (img .entry))) condition)) old ⌝ }
-{
-    let absent = is_absent(img, condition);
-    if marked & !absent {
-        return entry_of(smallest(img, counts, condition));
-    }
-    if marked { NONE } else { old }
 }
 
 // Whether some line is marked in a row.
@@ -98,22 +73,48 @@ fn count_found(book: &[Entry]) -> usize
     count
 }
 
-// Works out the entries of the lines that are marked in a row, keeps the others, and gives how many are then not none, each looked up in the row.
+// The marks of every line: those of a row, none past its end.
+fn marks_of(marks: &[u8]) -> [u8; MOST_LINES]
+    ensures { λ r. ⌜ (mostLines ≡ length r) × ((l : ℕ) → l < mostLines → on (getD r l 0) ≡ on (getD (now (marks .entry)) l 0)) ⌝ }
+{
+    let mut row = [0u8; MOST_LINES];
+    let mut l = 0;
+    while l < MOST_LINES {
+        row[l] = (0 < byte(marks, l)) as u8;
+        l += 1;
+    }
+    row
+}
+
+// An entry before it is worked out: none where its line is marked.
+fn cleared(marked: bool, e: Entry) -> Entry
+    ensures { λ r. ⌜ r ≡ cond marked noneMark e ⌝ }
+{
+    if marked { NONE } else { e }
+}
+
+// Makes the entries of the lines that are marked in a row none.
+fn clear(sort: Sort, marks: &[u8], book: &mut [Entry])
+    ensures { λ _. ⌜ Cleared sort (now (marks .entry)) (now (book .entry)) (now (book .exit)) ⌝ }
+{
+    let mut k = 0;
+    while k < book.len() {
+        let marked = 0 < byte(marks, site_of(fault_at(sort, k)));
+        let e = cleared(marked, book[k]);
+        book[k] = e;
+        k += 1;
+    }
+}
+
+// Works out the entries of the lines that are marked in a row, keeps the others, and gives how many are then not none.
 fn renew_marked(img: &[u8], counts: Counts, sort: Sort, marks: &[u8], book: &mut [Entry]) -> usize
     requires { ⌜ Renewable sort (now img) counts (now book) ⌝ }
     ensures { λ r. ⌜ Renewed sort (now (img .entry)) (now (marks .entry)) (now (book .entry)) r (now (book .exit)) ⌝ }
 {
-    let mut count = 0;
-    let mut k = 0;
-    while k < book.len() {
-        let fault = fault_at(sort, k);
-        let marked = 0 < byte(marks, site_of(fault));
-        let e = renew_entry(img, counts, fault, marked, book[k]);
-        book[k] = e;
-        count += (e != NONE) as usize;
-        k += 1;
-    }
-    count
+    let mut todo = marks_of(marks);
+    clear(sort, marks, book);
+    try_all(img, counts, sort, 0, &mut todo, book);
+    count_found(book)
 }
 
 // Works out the entries of the lines that are marked in a row, keeps the others, and gives how many are then not none. Where none is marked, they
@@ -126,13 +127,6 @@ pub fn renew(img: &[u8], counts: Counts, sort: Sort, marks: &[u8], book: &mut [E
         return renew_marked(img, counts, sort, marks, book);
     }
     count_found(book)
-}
-
-// Every line marked.
-fn every_line() -> [u8; MOST_LINES]
-    ensures { λ r. ⌜ ((l : ℕ) → l < mostLines → getD r l 0 ≡ 1) ⌝ }
-{
-    [1u8; MOST_LINES]
 }
 
 // Works out every entry, and gives how many are not none.

@@ -1,9 +1,9 @@
 // The smallest pattern that shows a fault, and the books of them all: Find, Book and the pin book.
+mod blocks;
 pub mod entries;
 pub mod said;
 mod search;
 
-use board::Condition;
 use board::Fault;
 use board::Sort;
 use entries::fill_book;
@@ -38,7 +38,7 @@ pub fn find(img: &[u8], fault: Fault) -> Found
 {
     match check_fault(img, fault) {
         Checked::Refused(r) => Found::Refused(r),
-        Checked::Good(counts) => match smallest(img, counts, Condition::Having(fault)) {
+        Checked::Good(counts) => match smallest(img, counts, fault) {
             Answer::At(p) => Found::Pattern(p as u64),
             Answer::Nothing => Found::Nothing,
         },

@@ -1,18 +1,26 @@
-// The smallest pattern that shows a fault.
-use board::Condition;
+// The smallest pattern that shows each fault of a part of a book, block by block from pattern 0 up.
+use crate::blocks::try_block;
+use board::Fault;
+use board::Sort;
 use image::Counts;
 use image::limits::Entry;
-use rows::fill::blank_row;
-use rows::outputs::shows_in;
+use image::limits::MOST_LINES;
+use image::limits::NONE;
+use lanes::fill::MOST_WORDS;
+use lanes::fill::make_room;
+use lanes::flat::MOST_FLAT;
+use lanes::flat::decode;
 ghost use mathlib.Core.Path.{_≡_};
-ghost use Prim.Native.Nat.{_≤_, _^_};
-ghost use Rattle.board.specs.Limits.{mostInputs};
+ghost use Prim.Native.Nat.{ℕ, _+_, _*_, _^_, _≤_, _<_};
+ghost use lib.ListN.{length, getD};
+ghost use Rattle.board.specs.Limits.{mostLines, mostInputs, noneMark};
 ghost use Rattle.board.specs.Board.{inputs as inputsOf};
 ghost use Rattle.board.specs.Test.{find};
+ghost use Rattle.board.specs.Book.{faultAt};
+ghost use Rattle.board.specs.declared.Condition.the-variants.{Having};
 ghost use Rattle.image.specs.Image.{boardOf};
 ghost use Rattle.image.specs.Inner.{Known, OnBoard};
-ghost use Rattle.rows.specs.Inner.{Tryable};
-ghost use Rattle.find.specs.Inner.{answered};
+ghost use Rattle.find.specs.Inner.{answered, Part, Searchable, Roomed, Searched};
 
 // What a search finds.
 pub enum Answer {
@@ -21,51 +29,143 @@ pub enum Answer {
 }
 
 // How many patterns a board with so many inputs has.
-fn patterns(inputs: usize) -> Entry
+fn patterns(inputs: usize) -> u64
     requires { ⌜ inputs ≤ mostInputs ⌝ }
-    ensures { λ r. ⌜ r ≡ 2 ^ inputs ⌝ }
+    ensures { λ r. ⌜ (r ≡ 2 ^ inputs) × (r ≤ noneMark) ⌝ }
 {
     1 << inputs
 }
 
-// The first pattern from 0 up that shows the fault, with room for the two rows lent.
-fn first_shown(
-    img: &[u8],
-    counts: Counts,
-    limit: Entry,
-    condition: Condition,
-    good: &mut [u8],
-    faulty: &mut [u8],
-) -> Answer
-    requires { ⌜ Tryable (now img) counts condition (now good) (now faulty) ⌝ }
-    requires { ⌜ limit ≡ 2 ^ inputsOf (boardOf (now img)) ⌝ }
-    ensures { λ r. ⌜ answered r ≡ find (boardOf (now (img .entry))) condition ⌝ }
+// The smaller of two numbers.
+fn smaller(a: u64, b: u64) -> u64
+    ensures { λ r. ⌜ (r ≤ a) × (r ≤ b) × (r < b → r ≡ a) × ((n : ℕ) → n < a → n < b → n < r) ⌝ }
 {
-    let mut x = 0;
-    while x < limit {
-        if shows_in(img, counts, x as u64, condition, good, faulty) {
-            return Answer::At(x);
-        }
-        x += 1;
-    }
-    Answer::Nothing
+    if a < b { a } else { b }
 }
 
-// The smallest pattern that shows the fault, or nothing.
-pub fn smallest(img: &[u8], counts: Counts, condition: Condition) -> Answer
-    requires { ⌜ Known (now img) counts × OnBoard (now img) condition ⌝ }
-    ensures { λ r. ⌜ answered r ≡ find (boardOf (now (img .entry))) condition ⌝ }
+// Tries the patterns below a limit for the entries of a part whose lines are still to do, with room for the blocks lent.
+fn search(
+    img: &[u8],
+    flat: &[u16],
+    limit: u64,
+    rows: &mut [u64],
+    changed: &mut [u8],
+    sort: Sort,
+    first: usize,
+    todo: &mut [u8],
+    part: &mut [Entry],
+)
+    requires { ⌜ Searchable sort first (now img) (now flat) limit (now rows) (now changed) (now todo) (length (now part)) ⌝ }
+    ensures { λ _. ⌜ Searched sort first (boardOf (now (img .entry))) limit (now (todo .entry)) (now (part .entry)) (now (part .exit)) ⌝ }
+{
+    let mut base = 0;
+    while base < limit {
+        let end = smaller(base + 512, limit);
+        if !try_block(img, flat, base, end, rows, changed, sort, first, todo, part) {
+            return;
+        }
+        base = end;
+    }
+}
+
+// Works out the entries of a part that are none and whose lines are to do in a row, with room for the board's numbers and words lent.
+fn try_in(
+    img: &[u8],
+    counts: Counts,
+    flat: &mut [u16],
+    rows: &mut [u64],
+    changed: &mut [u8],
+    sort: Sort,
+    first: usize,
+    todo: &mut [u8],
+    part: &mut [Entry],
+)
+    requires { ⌜ Roomed sort first (now img) counts (length (now flat)) (length (now rows)) (length (now changed)) (length (now todo)) (length (now part)) ⌝ }
+    ensures { λ _. ⌜ Searched sort first (boardOf (now (img .entry))) (2 ^ inputsOf (boardOf (now (img .entry)))) (now (todo .entry)) (now (part .entry)) (now (part .exit)) ⌝ }
+{
+    let limit = patterns(counts.inputs);
+    decode(img, counts, flat);
+    make_room(img, counts.lines, rows);
+    search(img, flat, limit, rows, changed, sort, first, todo, part);
+}
+
+// Works out the entries of a part that are none and whose lines are to do in a row. Each array is filled once, where it stands, and with 1s:
+// 0s are left to the C library, which an emulator may run a byte at a time.
+pub fn try_all(
+    img: &[u8],
+    counts: Counts,
+    sort: Sort,
+    first: usize,
+    todo: &mut [u8],
+    part: &mut [Entry],
+)
+    requires { ⌜ Known (now img) counts × Part sort first (now img) (length (now part)) × (mostLines ≤ length (now todo)) ⌝ }
+    ensures { λ _. ⌜ Searched sort first (boardOf (now (img .entry))) (2 ^ inputsOf (boardOf (now (img .entry)))) (now (todo .entry)) (now (part .entry)) (now (part .exit)) ⌝ }
 {
     let lines = counts.lines;
-    let mut good = blank_row();
-    let mut faulty = blank_row();
-    let limit = patterns(counts.inputs);
-    first_shown(
+    let numbers = 8 * lines;
+    let words = 16 * lines + 16;
+    let mut flat = [1u16; MOST_FLAT];
+    let mut rows = [1u64; MOST_WORDS];
+    let mut changed = [0u8; MOST_LINES];
+    try_in(
         img,
         counts,
-        limit,
-        condition,
-        &mut good[..lines],
-        &mut faulty[..lines],
-    )
+        &mut flat[..numbers],
+        &mut rows[..words],
+        &mut changed[..lines],
+        sort,
+        first,
+        todo,
+        part,
+    );
+}
+
+// Every line marked.
+pub fn every_line() -> [u8; MOST_LINES]
+    ensures { λ r. ⌜ (mostLines ≡ length r) × ((l : ℕ) → l < mostLines → getD r l 0 ≡ 1) ⌝ }
+{
+    [1u8; MOST_LINES]
+}
+
+// The smallest pattern that shows the fault of a book's entry k, or nothing.
+fn answer_at(img: &[u8], counts: Counts, sort: Sort, k: usize) -> Answer
+    requires { ⌜ Known (now img) counts × OnBoard (now img) (faultAt sort k) ⌝ }
+    ensures { λ r. ⌜ answered r ≡ find (boardOf (now (img .entry))) (faultAt sort k) ⌝ }
+{
+    let mut todo = every_line();
+    let mut part = [NONE; 1];
+    try_all(img, counts, sort, k, &mut todo, &mut part);
+    let e = part[0];
+    if e == NONE {
+        Answer::Nothing
+    } else {
+        Answer::At(e)
+    }
+}
+
+// The smallest pattern that shows a fault, or nothing.
+pub fn smallest(img: &[u8], counts: Counts, fault: Fault) -> Answer
+    requires { ⌜ Known (now img) counts × OnBoard (now img) (Having fault) ⌝ }
+    ensures { λ r. ⌜ answered r ≡ find (boardOf (now (img .entry))) (Having fault) ⌝ }
+{
+    match fault {
+        Fault::Line { line, stuck } => answer_at(
+            img,
+            counts,
+            Sort::Lines,
+            2 * line + (stuck as usize),
+        ),
+        Fault::Pin { line, pin, stuck } => {
+            if 4 <= pin {
+                return Answer::Nothing;
+            }
+            answer_at(
+                img,
+                counts,
+                Sort::Pins,
+                8 * line + 2 * pin + (stuck as usize),
+            )
+        }
+    }
 }

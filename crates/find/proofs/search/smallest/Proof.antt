@@ -1,55 +1,80 @@
--- `find::search::smallest` meets its contract: two blank rows have room for the board's.
-use mathlib.Core.Path.{sym, _∙_}
-use Prim.Native.Nat.{_≤_}
+-- `find::search::smallest` meets its contract: a fault has a number in a book, or its pin is absent.
+use mathlib.Core.Path.{sym}
 use native.Mathlib.Omega.{arith}
-use Rattle.board.specs.Limits.{mostLines}
-use Rattle.image.proofs.Laws.Fine.{accepted-fine, lines-few}
-use Rattle.rows.proofs.Laws.Judge.{front}
+use Rattle.board.specs.declared.Condition.the-variants.{Having}
+use Rattle.board.specs.declared.Fault.the-variants.{Line, Pin}
+use Rattle.image.specs.Image.{boardOf}
+use Rattle.image.specs.Inner.{OnBoard}
+use Rattle.image.proofs.Laws.Fine.{line-count, accepted-fine, lines-few}
+use Rattle.find.proofs.Laws.Book.{line-number, pin-number, fifth-absent}
 use borrow.Author.Needs.{needs}
 use Rattle.find.proofs.search.smallest.Statement.{statement}
 use Rattle.find.proofs.search.smallest.Tie as tie
 
-few : (c : tie.Start) → c .args .counts .lines ≤ mostLines
-few c = rw (c .pre .0 .lines-are) (lines-few (c .args .img .now) (c .pre .0 .ok))
+-- the fault, of a line and of a pin
+on-line : (c : tie.After-known-told) → OnBoard (c .before .before .before .before .args .img .now) (Having (Line (c .before .fault .given .0 .0) (c .before .fault .given .0 .1 .0)))
+on-line c = rw (c .before .fault .given .1) at (c .before .before .before .before .pre .1)
 
-patterns-requires : tie.Need-patterns-requires
-patterns-requires c κs =
-    let start = c .before .before .before in
-    rw (start .pre .0 .ins-are) (accepted-fine (start .args .img .now) (start .pre .0 .ok) .inputs-few)
+on-pin : (c : tie.After-known-told2) → let fault = c .before .fault2 .given .0 in
+    OnBoard (c .before .before .before .before .args .img .now) (Having (Pin (fault .0) (fault .1 .0) (fault .1 .1 .0)))
+on-pin c = rw (c .before .fault2 .given .1) at (c .before .before .before .before .pre .1)
 
-array-borrow-prefix-good : tie.Need-array-borrow-prefix-good
-array-borrow-prefix-good c = omega (arith, c .before .before .blank-row .ensures, few (c .before .before .before .before))
+mul-answer-at : tie.Need-mul-answer-at
+mul-answer-at c =
+    let start = c .before .before .before .before in
+    omega (arith, on-line c .inside, lines-few (start .args .img .now) (start .pre .0 .ok))
 
-slice-aggregate-first-shown : tie.Need-slice-aggregate-first-shown
-slice-aggregate-first-shown c =
+add-answer-at : tie.Need-add-answer-at
+add-answer-at c =
+    let start = c .before .before .before .before in
+    omega (arith, on-line c .inside, on-line c .held, lines-few (start .args .img .now) (start .pre .0 .ok))
+
+answer-at-requires : tie.Need-answer-at-requires
+answer-at-requires c κs =
+    let fault = c .before .fault .given .0 in
+    (c .before .before .before .before .pre .0, rw (line-number (fault .0) (fault .1 .0) (on-line c .held)) (on-line c))
+
+returns : tie.Need-returns
+returns c =
+    let told = c .before in
+    let fault = told .before .fault2 .given in
+    let start = told .before .before .before .before in
+    let s = start .args .img .now in
+    rw (fault .1) (sym (fifth-absent (boardOf s) (accepted-fine s (start .pre .0 .ok)) (fault .0 .0) (fault .0 .1 .0) (fault .0 .1 .1 .0) (rw (line-count s) (on-pin told .inside)) (c .if1 .taken)))
+
+mul-answer-at-2 : tie.Need-mul-answer-at-2
+mul-answer-at-2 c =
     let start = c .before .before .before .before .before in
-    sym (front (c .before .before .before .blank-row .result) (start .args .counts .lines) (c .before .before .before .blank-row .ensures) (few start))
+    omega (arith, on-pin (c .before) .inside, lines-few (start .args .img .now) (start .pre .0 .ok))
 
-array-borrow-prefix-faulty : tie.Need-array-borrow-prefix-faulty
-array-borrow-prefix-faulty c = omega (arith, c .before .before .blank-row2 .ensures, few (c .before .before .before .before .before))
+add-answer-at-2 : tie.Need-add-answer-at-2
+add-answer-at-2 c =
+    let start = c .before .before .before .before .before in
+    omega (arith, on-pin (c .before) .inside, c .if1 .left, lines-few (start .args .img .now) (start .pre .0 .ok))
 
-slice-aggregate-first-shown-2 : tie.Need-slice-aggregate-first-shown-2
-slice-aggregate-first-shown-2 c =
-    let start = c .before .before .before .before .before .before in
-    sym (front (c .before .before .before .blank-row2 .result) (start .args .counts .lines) (c .before .before .before .blank-row2 .ensures) (few start))
+add-answer-at-3 : tie.Need-add-answer-at-3
+add-answer-at-3 c =
+    let start = c .before .before .before .before .before in
+    omega (arith, on-pin (c .before) .inside, on-pin (c .before) .held, c .if1 .left, lines-few (start .args .img .now) (start .pre .0 .ok))
 
-first-shown-requires : tie.Need-first-shown-requires
-first-shown-requires c κs =
-    let start = c .before .before .before .before .before .before in
-    let second = c .before .before .before in
-    let known = start .pre .0 in
-    let lines = start .args .counts .lines in (
-      record {
-        known = known;
-        on-board = start .pre .1;
-        good-long = front (second .before .blank-row .result) lines (second .before .blank-row .ensures) (few start) ∙ known .lines-are;
-        faulty-long = front (second .blank-row2 .result) lines (second .blank-row2 .ensures) (few start) ∙ known .lines-are;
-      },
-      c .before .before .patterns .ensures ∙ rw (known .ins-are),
-    )
+answer-at-requires-2 : tie.Need-answer-at-requires-2
+answer-at-requires-2 c κs =
+    let fault = c .before .before .fault2 .given .0 in
+    (c .before .before .before .before .before .pre .0, rw (pin-number (fault .0) (fault .1 .0) (fault .1 .1 .0) (c .if1 .left) (on-pin (c .before) .held)) (on-pin (c .before)))
+
+returns-2 : tie.Need-returns-2
+returns-2 c =
+    let fault = c .before .before .fault .given in
+    rw (fault .1) (rw (line-number (fault .0 .0) (fault .0 .1 .0) (on-line (c .before) .held)) at (c .answer-at .ensures))
+
+returns-3 : tie.Need-returns-3
+returns-3 c =
+    let told = c .before .before in
+    let fault = told .before .fault2 .given in
+    rw (fault .1) (rw (pin-number (fault .0 .0) (fault .0 .1 .0) (fault .0 .1 .1 .0) (c .before .if1 .left) (on-pin told .held)) at (c .answer-at2 .ensures))
 
 pub smallest-spec : {M : Type 1} → statement M
 smallest-spec =
     tie.close
-    (tie.spec (λ c κs. search needs) (λ c κs. search needs) patterns-requires array-borrow-prefix-good slice-aggregate-first-shown
-    array-borrow-prefix-faulty slice-aggregate-first-shown-2 first-shown-requires (λ c. search needs))
+    (tie.spec (λ c. search needs) mul-answer-at (λ c. search needs) add-answer-at answer-at-requires (λ c. search needs) returns mul-answer-at-2
+    (λ c. search needs) add-answer-at-2 (λ c. search needs) add-answer-at-3 answer-at-requires-2 returns-2 returns-3)

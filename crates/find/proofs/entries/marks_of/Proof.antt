@@ -1,0 +1,32 @@
+-- `find::entries::marks_of` meets its contract: the first l lines are marked as in the row.
+use mathlib.Core.Path.{_≡_, sym, ap, _∙_}
+use Prim.Native.Nat.{_-_}
+use native.Mathlib.Omega.{arith}
+use lib.ListN.{getD}
+use Rattle.board.specs.Lists.{on}
+use Rattle.find.proofs.Laws.Parts.{on-bit, Storing, none-stored, one-stored}
+use borrow.Author.Needs.{needs}
+use Rattle.find.proofs.entries.marks_of.Statement.{statement}
+use Rattle.find.proofs.entries.marks_of.Tie as tie
+
+abbrev Inv-loop : tie.InvT-loop
+Inv-loop marks row₀ l₀ row l = Storing (λ j m. on m ≡ on (getD marks j 0)) row₀ l row
+
+abbrev μ-loop : tie.MeasureT-loop
+μ-loop marks row₀ l₀ row l = 512 - l
+
+loop-holds : tie.Need-loop-holds Inv-loop μ-loop
+loop-holds c = none-stored _ _
+
+loop-again : tie.Need-loop-again Inv-loop μ-loop
+loop-again c =
+    let at-loop = c .before .before in
+    one-stored _ _ (at-loop .loop .l) _ (at-loop .loop .row) (c .before .loop-test .taken) (at-loop .loop .inv) (on-bit (on (c .byte .result)) ∙ ap on (c .byte .ensures .0))
+
+returns : tie.Need-returns Inv-loop μ-loop
+returns c = let stored = c .before .loop .inv in (sym (stored .long), λ l inside. stored .each l (omega (arith, inside, c .loop-test .left)))
+
+pub marks-of-spec : {M : Type 1} → statement M
+marks-of-spec =
+    tie.close
+    (tie.spec Inv-loop μ-loop loop-holds (λ c κs. search needs) (λ c. search needs) (λ c. search needs) (λ c. search needs) (λ c. search needs) loop-again returns)
