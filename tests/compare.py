@@ -75,10 +75,11 @@ CAN_ANSWER = {
     "altered line": ["reaches none", "is an output and reaches another"],
     "touched": ["by the first output only", "by the last only", "by the 64th only", "before only", "after only",
                 *(f"through pin {pin} only" for pin in range(4))],
+    "a pattern": ["of the first word", "of the first block", "of a later block"],
     **{name: [*ON_FAULT, "three at 1", *(f"x on pin {pin} only" for pin in range(n))] for n, name in XORS.items()},
 }
 # rows of the table that say more of an answer that another row has counted
-CLOSER = ("a bad record", "alter's 9", "altered board", "altered line", "touched", *XORS.values())
+CLOSER = ("a bad record", "alter's 9", "altered board", "altered line", "touched", "a pattern", *XORS.values())
 FIXED = (b"? line too long", b"? cannot read")
 
 
@@ -271,6 +272,11 @@ def of_row(image, row):
             yield XORS[len(pins)], f"x on pin {values.index(2)} only"
 
 
+def of_pattern(pattern):
+    """What the table counts of a pattern that Find gives: where it stands among the 64 patterns of a word and the 512 of a block."""
+    return "of the first word" if pattern < 64 else "of the first block" if pattern < 512 else "of a later block"
+
+
 def counted(commands, answered):
     """How often each form of answer of each command arose."""
     counts, lent, image, filled = collections.Counter(), (0, 0, 0), None, False
@@ -280,6 +286,8 @@ def counted(commands, answered):
         lent = lent_after(lent, command, answer)
         if answer.startswith(b"refused 4 at "):
             counts["a bad record", "field " + answer.decode().rsplit(".", 1)[1]] += 1
+        if name.startswith("find") and answer.isdigit():
+            counts["a pattern", of_pattern(int(answer))] += 1
         if (name, answer) == ("alter", b"refused 9"):
             counts["alter's 9", wrong_books(*lent)] += 1
         image = image_after(image, command, answer)
