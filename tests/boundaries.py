@@ -503,6 +503,39 @@ ON_ODD_OR = [
     ("pin entries", book("pins", (NONE, 16), (1, 1), (0, 1), (2, 1), (0, 1), (NONE, 4), (1, 1), (0, 1), (2, 1), (0, 1), (1, 1), (0, 1), (NONE, 2))),
 ]
 
+# document 02, W4: the last pattern of a board, and the first and the last of a word of 64 and of a block of 512
+
+
+def all_ones(inputs):
+    """A board whose output, line 2 x inputs - 2, is the and of all its inputs, two lines at a time."""
+    return image([record(INPUT)] * inputs + [record(AND, 0, 1)] + [record(AND, inputs + i, i + 2) for i in range(inputs - 2)], [2 * inputs - 2])
+
+
+def last_alone(inputs):
+    """A board whose output is a buffer behind its last input."""
+    return image([record(INPUT)] * inputs + [record(BUFFER, inputs - 1)], [inputs])
+
+
+def on_all_ones(inputs, last, but_first, but_last):
+    """Its output at 0 and a pin of it, its first input at 1 and its last: all 1s, all but the first and all but the last are the smallest."""
+    output = 2 * inputs - 2
+    return [(f"find {output}/0", str(last)), (f"find {output}/1", "0"), (f"find {output}.1/0", str(last)), (f"find {output}.1/1", str(but_last)),
+            ("find 0/0", str(last)), ("find 0/1", str(but_first)), (f"find {inputs - 1}/1", str(but_last))]
+
+
+def on_last_alone(inputs, last):
+    """The last input at 0 by itself and as a pin, which only its own bit shows; the first input, which no pattern shows."""
+    return [(f"find {inputs - 1}/0", str(last)), (f"find {inputs}.0/0", str(last)), (f"find {inputs}/1", "0"), ("find 0/0", "none"), ("find 0/1", "none")]
+
+
+# inputs, and the numbers that are the smallest patterns there
+LAST_PATTERNS = [(2, 3, 2, 1), (5, 31, 30, 15), (6, 63, 62, 31), (7, 127, 126, 63), (9, 511, 510, 255), (10, 1023, 1022, 511), (24, 16777215, 16777214, 8388607)]
+FIRST_PATTERNS = [(6, 32), (7, 64), (9, 256), (10, 512), (11, 1024), (24, 8388608)]
+ON_LAST = [(f"all ones of {row[0]}", all_ones(row[0]), f"board {2 * row[0] - 1} lines {row[0]} inputs 1 outputs", on_all_ones(*row)) for row in LAST_PATTERNS]
+ON_FIRST = [(f"the last of {n} alone", last_alone(n), f"board {n + 1} lines {n} inputs 1 outputs", on_last_alone(n, last)) for n, last in FIRST_PATTERNS]
+# T's book twice over, so that a second filling starts from a filled one
+TWICE = [("book", "found 2 of 6"), ("book", "found 2 of 6"), ("entries", book("entries", (NONE, 2), (0, 1), (NONE, 1), (0, 1), (NONE, 1)))]
+
 BEFORE_LOAD = [("pin entries", "pins"), ("pin book", "refused 1"), ("find 0.0/0", "refused 1"), ("put pin 0 1", "?")]
 # a board's name and image, what Check says of it, and what is asked of it
 S_COUNTS, T_COUNTS = "board 12 lines 4 inputs 1 outputs", "board 3 lines 1 inputs 1 outputs"
@@ -525,6 +558,9 @@ ASKED = [
     ("exclusive-or of 3", ODD_OF_3, "board 5 lines 3 inputs 2 outputs", ON_ODD_OF_3),
     ("exclusive-or of 4", ODD_OF_4, "board 6 lines 4 inputs 2 outputs", ON_ODD_OF_4),
     ("exclusive-or as or", ODD_OR, "board 4 lines 2 inputs 1 outputs", ON_ODD_OR),
+    ("T", T, T_COUNTS, TWICE),
+    *ON_LAST,
+    *ON_FIRST,
 ]
 
 
