@@ -22,9 +22,9 @@ use Rattle.board.specs.declared.Condition.{Condition}
 use Rattle.board.proofs.Lists.{way, clash}
 use Rattle.board.proofs.Search.{Below, first-is-smallest, first-at, first-none}
 use Rattle.board.proofs.Absent.{absent-hidden}
+use Rattle.reach.proofs.Laws.Bits.{and-bit, zero-bit}
 use Rattle.lanes.specs.Words.{seen, each, lane, Lanes, below}
 use Rattle.lanes.specs.Inner.{Lowest}
-use Rattle.lanes.proofs.Laws.Lane.{lane-and, lane-none}
 use Rattle.lanes.proofs.Laws.Eight.{word-at}
 use Rattle.lanes.proofs.Laws.Through.{shows-through}
 use Rattle.find.specs.Inner.{Span, Goes, Onward}
@@ -112,7 +112,7 @@ module _ (b : Board) (low : Low b) (φ : Condition) (held : stuck φ < 2) (base 
       → Lanes shown (shows b φ) base
   shown-lanes through shown sees is k l =
       rw (word-at shown (λ w. bitAnd (getD own w 0) (getD through w 0)) is (k / 64) (omega arith))
-      (lane-and (getD own (k / 64) 0) (getD through (k / 64) 0) (k % 64)
+      (and-bit (getD own (k / 64) 0) (getD through (k / 64) 0) (k % 64)
       ∙ rw (changes k l, sees k l, shows-through b low (base + k) φ held) (both (differs b φ (base + k) (site φ)) (seen b (site φ) (base + k))))
 
   -- where it changes its line in no lane of a block, its entry is as before
@@ -120,7 +120,7 @@ module _ (b : Board) (low : Low b) (φ : Condition) (held : stuck φ < 2) (base 
   idle-same n over few dark =
       same-below (shows b φ) base n over (λ q m l.
       shows-through b low q φ held
-      ∙ rw (dark-to (λ x. differs b φ x (site φ)) base own changes 512 (omega arith) (λ k i. rw (dark (k / 64) (omega arith)) (lane-none (k % 64) (omega arith))) q m (omega arith)))
+      ∙ rw (dark-to (λ x. differs b φ x (site φ)) base own changes 512 (omega arith) (λ k i. rw (dark (k / 64) (omega arith)) (zero-bit (k % 64))) q m (omega arith)))
 
 -- a fault on an absent pin shows under no pattern
 pub absent-same : (b : Board) (φ : Condition) → absent b φ ≡ true → (m n : ℕ) → m ≤ n → below (shows b φ) m ≡ below (shows b φ) n

@@ -16,34 +16,10 @@ use Rattle.board.specs.Book.{entriesALine}
 use Rattle.board.specs.declared.Sort.{Sort}
 use Rattle.board.specs.declared.Sort.the-variants.{Lines, Pins}
 use Rattle.board.proofs.Lists.{way, or-false}
+use Rattle.board.proofs.Reach.{on-bit}
 use Rattle.lanes.specs.Inner.{Block}
 use Rattle.find.specs.Inner.{Onward, testOf, lineOf, Part, LineEnd, Gone, Tried, TriedLine, Searched}
 use Rattle.find.proofs.Laws.Blocks.{onward-start, onward-off, onward-on, onward-end, onward-done}
-
--- the first i numbers of a buffer are as they should be, and the others as they were
-pub record Storing (P : ℕ → ℕ → Type 0) (old : List ℕ) (i : ℕ) (new : List ℕ) : Type 0 where
-  pub long : length new ≡ length old
-  pub each : (k : ℕ) → k < i → P k (getD new k 0)
-  pub rest : (k : ℕ) → i ≤ k → getD new k 0 ≡ getD old k 0
-
-module _ (P : ℕ → ℕ → Type 0) (old : List ℕ) where
-  pub none-stored : Storing P old 0 old
-  none-stored = record { long = refl; each = λ k l. absurd (omega arith); rest = λ k l. refl }
-
-  pub one-stored : (i v : ℕ) (new : List ℕ) → i < length old → Storing P old i new → P i v → Storing P old (i + 1) (set new i v)
-  one-stored i v new inside h is =
-      record {
-        long = length-set new i v ∙ h .long;
-        each = λ k l.
-            ⊎-elim
-            (λ (q : ltb k i ≡ true). let m = ltb-true k i q in rw (getD-set-other new i k v 0 (λ e. omega arith)) (h .each k m))
-            (λ (q : ltb k i ≡ false).
-            let m = ltb-false k i q in
-            let same : k ≡ i = omega arith in
-            rw (same, getD-set-same new i v 0 (omega (arith, h .long))) is)
-            (way (ltb k i));
-        rest = λ k l. getD-set-other new i k v 0 (λ e. omega arith) ∙ h .rest k (omega arith);
-      }
 
 -- a line ends where the next one begins, or with the part
 abbrev pub nextLine : Sort → ℕ → ℕ
@@ -75,10 +51,6 @@ module _ (sort : Sort) (first k n e : ℕ) (ends : LineEnd sort first k n e) whe
 
   pub part-line : (i : ℕ) → i < e - k → lineOf sort (first + k) i ≡ lineOf sort first k
   part-line i l = rw (number i) (ends .same (k + i) (omega arith) (omega arith))
-
-pub on-bit : (t : Bool) → on (bit t) ≡ t
-on-bit true = refl
-on-bit false = refl
 
 -- the entries of a line: it was done, or it was tried
 module _ (sort : Sort) (first : ℕ) (b : Board) (m n line : ℕ) (todo part : List ℕ) (of-line : (k : ℕ) → k < length part → lineOf sort first k ≡ line) where

@@ -81,16 +81,17 @@ module _ {b : Board} {flat : List ℕ} (is : Flat b flat) (i : ℕ) (inside : i 
   good-gate base kind kind-is ne =
       sym (value-is (words base) b low-board i ∙ rw (ne-eqb (recordOf b i .kind) 0 (λ e. ne (kind-is ∙ is .kind i inside ∙ e))))
 
--- eight words put among the good ones, of line i, and the rest is as before
-module _ (b : Board) (base i : ℕ) {rows e new : List ℕ} (inside : i < size b) (put : Put rows (8 * i) e new) where
-  pub roomy-on : Roomy b rows → Roomy b new
-  roomy-on h =
-      record {
-        long = put .long ∙ h .long;
-        zeros = λ w l. put .off (16 * size b + w) (inr (omega arith)) ∙ h .zeros w l;
-        ones = λ w l. put .off (16 * size b + 8 + w) (inr (omega arith)) ∙ h .ones w l;
-      }
+-- eight words put among those of the lines leave the room behind them
+pub room-kept : {b : Board} {at : ℕ} {rows e new : List ℕ} → Put rows at e new → at + 8 ≤ 16 * size b → Roomy b rows → Roomy b new
+room-kept {b} put fits h =
+    record {
+      long = put .long ∙ h .long;
+      zeros = λ w l. put .off (16 * size b + w) (inr (omega arith)) ∙ h .zeros w l;
+      ones = λ w l. put .off (16 * size b + 8 + w) (inr (omega arith)) ∙ h .ones w l;
+    }
 
+-- eight words put among the good ones, of line i, and the rest is as before
+module _ (b : Board) (base i : ℕ) {rows e new : List ℕ} (put : Put rows (8 * i) e new) where
   pub good-next : GoodTo b base i rows → ((w : ℕ) → w < 8 → getD e w 0 ≡ value (words (base + 64 * w)) b i) → GoodTo b base (i + 1) new
   good-next h is k w l m =
       ⊎-elim

@@ -50,16 +50,7 @@ somewhere-end t (x ∷ xs) y =
 pin-number : (r : Record) (j : ℕ) → getD (numbersOf r) (2 + j) 0 ≡ getD (r .pins) j 0
 pin-number r j = let two : 2 + j ≡ suc (suc j) = omega arith in rw two
 
--- one number more is cleared
-pub cleared-next : (flat : List ℕ) (k : ℕ) → k < length flat → ((j : ℕ) → j < k → getD flat j 0 ≡ 0) → (j : ℕ) → j < k + 1 → getD (set flat k 0) j 0 ≡ 0
-cleared-next flat k inside below j l =
-    ⊎-elim
-    (λ (t : eqb j k ≡ true). rw (eqb-true j k t) (getD-set-same flat k 0 0 inside))
-    (λ (t : eqb j k ≡ false).
-    let off = eqb-false j k t in
-    getD-set-other flat k j 0 0 off ∙ below j (omega (arith, off)))
-    (way (eqb j k))
-
+-- where the numbers before the end are 0, so is what stands past it
 pub cleared-all : (flat : List ℕ) (k : ℕ) → length flat ≤ k → ((j : ℕ) → j < k → getD flat j 0 ≡ 0) → (j : ℕ) → getD flat j 0 ≡ 0
 cleared-all flat k all below j =
     ⊎-elim

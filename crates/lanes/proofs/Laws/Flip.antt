@@ -22,7 +22,8 @@ use Rattle.board.proofs.Lists.{way, or-true, or-right, and-true, passes-somewhe
 use Rattle.board.proofs.Fine.{fine-low}
 use Rattle.lanes.specs.Words.{words, flipped, flippedWords, faultyWords, seen, isOut, apartBelow}
 use Rattle.lanes.specs.Inner.{size, Flat, Passed, PassedOn, Heard, adds}
-use Rattle.lanes.proofs.Laws.Lane.{each-bit, bit-of, lane-or, lane-xor, lane-none}
+use Rattle.reach.proofs.Laws.Bits.{bit-low, zero-bit, or-bit}
+use Rattle.lanes.proofs.Laws.Lane.{each-bit, lane-xor}
 use Rattle.lanes.proofs.Laws.Row.{Known, good-lane, flipped-lane, faulty-lane}
 use Rattle.lanes.proofs.Laws.Eight.{Holds}
 use Rattle.lanes.proofs.Laws.Pass.{apart, apart-next, apart-start}
@@ -75,28 +76,28 @@ apart-bit u v h k =
     (each-bit (λ (v : ℕ). differ 1 v ≡ bit (not (eqb 1 v))) refl refl v k)
     u h
 
-or-bit : (s t : Bool) → max (bit s) (bit t) ≡ bit (s || t)
-or-bit true true = refl
-or-bit true false = refl
-or-bit false true = refl
-or-bit false false = refl
+either : (s t : Bool) → max (bit s) (bit t) ≡ bit (s || t)
+either true true = refl
+either true false = refl
+either false true = refl
+either false false = refl
 
 pub xor-lane : (u v j : ℕ) → bitOf (bitXor u v) j ≡ bit (not (eqb (bitOf u j) (bitOf v j)))
-xor-lane u v j = lane-xor u v j ∙ apart-bit (bitOf u j) (bitOf v j) (bit-of u j) (bit-of v j)
+xor-lane u v j = lane-xor u v j ∙ apart-bit (bitOf u j) (bitOf v j) (bit-low u j) (bit-low v j)
 
 -- the words differ at some of the lines, lane by lane
 apart-lane : (g f : ℕ → ℕ) (t : ℕ → Bool) (j : ℕ) → j < 64 → (n : ℕ)
     → bitOf (apartBelow g f t n) j ≡ bit (anyBelow (λ i. t i && not (eqb (bitOf (g i) j) (bitOf (f i) j))) n)
 unfolding apartBelow
-apart-lane g f t j inside zero = lane-none j inside
+apart-lane g f t j inside zero = zero-bit j
 apart-lane g f t j inside (suc n) =
     let here = not (eqb (bitOf (g n) j) (bitOf (f n) j)) in
     let before = anyBelow (λ i. t i && not (eqb (bitOf (g i) j) (bitOf (f i) j))) n in
-    lane-or (apartBelow g f t n) _ j
+    or-bit (apartBelow g f t n) _ j
     ∙ rw (apart-lane g f t j inside n)
     (⊎-elim
-    (λ (e : t n ≡ true). rw (e, xor-lane (g n) (f n) j) (or-bit before here))
-    (λ (e : t n ≡ false). rw (e, lane-none j inside) (or-bit before false))
+    (λ (e : t n ≡ true). rw (e, xor-lane (g n) (f n) j) (either before here))
+    (λ (e : t n ≡ false). rw (e, zero-bit j) (either before false))
     (way (t n)))
 
 -- every kind of a board within the rules is one of the table's

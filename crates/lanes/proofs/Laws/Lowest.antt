@@ -14,7 +14,7 @@ use Rattle.board.specs.Gate.{bitOf}
 use Rattle.board.proofs.Lists.{way}
 use Rattle.lanes.specs.Words.{lane}
 use Rattle.lanes.specs.Inner.{LowestOne, Lowest}
-use Rattle.lanes.proofs.Laws.Lane.{lane-none}
+use Rattle.reach.proofs.Laws.Bits.{zero-bit}
 
 -- the next bit of a number is that bit of its half
 bit-next : (n j : ℕ) → bitOf n (suc j) ≡ bitOf (n / 2) j
@@ -66,7 +66,7 @@ dark-next e n dark here w l =
 
 -- the lanes of dark words
 dark-lanes : (e : List ℕ) (n : ℕ) → Dark e n → (k : ℕ) → k < 64 * n → lane e k ≡ 0
-dark-lanes e n dark k l = rw (dark (k / 64) (omega arith)) (lane-none (k % 64) (omega arith))
+dark-lanes e n dark k l = rw (dark (k / 64) (omega arith)) (zero-bit (k % 64))
 
 pub all-dark : (e : List ℕ) (n : ℕ) → 8 ≤ n → Dark e n → Lowest e 512
 all-dark e n l dark = record { few = omega arith; dark = λ k m. dark-lanes e n dark k (omega arith); lit = λ m. absurd (omega arith) }

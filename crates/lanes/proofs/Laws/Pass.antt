@@ -1,6 +1,6 @@
 -- A change of line l passed up the board, line by line: a line that reads no changed line keeps its words, and one that does has its gate's.
 use mathlib.Core.Path.{_≡_, sym, ap, _∙_}
-use mathlib.Core.Logic.{_⊎_, inl, inr, ⊎-elim}
+use mathlib.Core.Logic.{_⊎_, inl, ⊎-elim}
 use mathlib.Core.List.{List, map}
 use mathlib.Core.Bool.{true, false, _&&_}
 use Prim.Native.Nat.{ℕ, zero, suc, _+_, _-_, _*_, _≤_, _<_}
@@ -23,6 +23,7 @@ use Rattle.lanes.specs.Words.{turned, words, flippedWords, gateWord, isO
 use Rattle.lanes.specs.Inner.{size, Block, Put, isChanged, placeOf, Passed, PassedOn, Heard, adds}
 use Rattle.lanes.proofs.Laws.Through.{off-line, below-line, at-line}
 use Rattle.lanes.proofs.Laws.Eight.{xor-same}
+use Rattle.lanes.proofs.Laws.Fill.{room-kept}
 
 -- where a line's words stand
 module _ (n l : ℕ) (changed : List ℕ) (p : ℕ) where
@@ -88,12 +89,7 @@ module _ (b : Board) (low : Low b) (base l : ℕ) where
     pub block-put : Block b base rows → Block b base new
     block-put h =
         record {
-          room =
-              record {
-                long = put .long ∙ h .room .long;
-                zeros = λ w m. put .off (16 * size b + w) (inr (omega arith)) ∙ h .room .zeros w m;
-                ones = λ w m. put .off (16 * size b + 8 + w) (inr (omega arith)) ∙ h .room .ones w m;
-              };
+          room = room-kept put (omega arith) (h .room);
           number = h .number;
           base-is = h .base-is;
           good = λ p w m k. put .off (8 * p + w) (inl (omega arith)) ∙ h .good p w m k;

@@ -18,8 +18,9 @@ use Rattle.board.specs.declared.Fault.the-variants.{Line, Pin}
 use Rattle.board.specs.declared.Condition.the-variants.{Sound, Having}
 use Rattle.board.proofs.Lists.{map-same, way, lower}
 use Rattle.board.proofs.Row.{value-is}
+use Rattle.reach.proofs.Laws.Bits.{zero-bit}
 use Rattle.lanes.specs.Words.{words, flipped, flippedWords, turned, spread, faultyWords}
-use Rattle.lanes.proofs.Laws.Lane.{each-bit, lane-full, lane-none, lane-gate, lane-input, lane-turned}
+use Rattle.lanes.proofs.Laws.Lane.{each-bit, lane-full, lane-gate, lane-input, lane-turned}
 
 map-map : (f g : ℕ → ℕ) (xs : List ℕ) → map f (map g xs) ≡ map (λ (x : ℕ). f (g x)) xs
 map-map f g [] = refl
@@ -70,7 +71,7 @@ module _ (b : Board) (low : Low b) (known : Known b) (block j : ℕ) (inside : j
 
   -- the words of the faulty board, for a line fault and for a pin fault at once
   spread-lane : (s : ℕ) → s < 2 → bitOf (spread s) j ≡ s
-  spread-lane = each-bit (λ (s : ℕ). bitOf (spread s) j ≡ s) (lane-none j inside) (lane-full j inside)
+  spread-lane = each-bit (λ (s : ℕ). bitOf (spread s) j ≡ s) (zero-bit j) (lane-full j inside)
 
   faulty-step : (φ : Condition) → stuck φ < 2 → (i : ℕ) (ws : List ℕ)
       → bitOf (faultyWords φ (64 * block) i (recordOf b i .kind) ws) j ≡ faulty φ (64 * block + j) i (recordOf b i .kind) (map (λ (w : ℕ). bitOf w j) ws)

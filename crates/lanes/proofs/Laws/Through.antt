@@ -2,15 +2,15 @@
 -- same value. So a fault shows exactly when it changes its own line and a change of that line is seen.
 use mathlib.Core.Path.{_≡_, refl, sym, ap, _∙_}
 use mathlib.Core.Logic.{⊎-elim}
-use mathlib.Core.List.{List, [], _∷_, map}
-use mathlib.Core.Bool.{Bool, true, false, not, _&&_}
+use mathlib.Core.List.{List, map}
+use mathlib.Core.Bool.{true, false, not, _&&_}
 use Prim.Native.Nat.{ℕ, _-_, _/_, _^_, _<_}
 use native.Mathlib.Nat.{mod-lt, lt-irrefl}
 use native.Mathlib.Omega.{arith}
 use lib.Dec.{eqb, lit<}
-use lib.ListN.{length}
+use lib.ListN.{length, getD}
 use borrow.Author.Tests.{eqb-true, eqb-false, eq-eqb}
-use Rattle.board.specs.Lists.{somewhere, ones}
+use Rattle.board.specs.Lists.{ones}
 use Rattle.board.specs.Board.{Board, recordOf, Low}
 use Rattle.board.specs.Row.{Rule, value}
 use Rattle.board.specs.Gate.{asks, heldPins, good, under, faulty, site, stuck}
@@ -18,7 +18,7 @@ use Rattle.board.specs.Test.{differs, shows}
 use Rattle.board.specs.declared.Condition.{Condition}
 use Rattle.board.specs.declared.Fault.the-variants.{Line, Pin}
 use Rattle.board.specs.declared.Condition.the-variants.{Sound, Having}
-use Rattle.board.proofs.Lists.{map-same, somewhere-same, way, lower}
+use Rattle.board.proofs.Lists.{map-same, somewhere-same, nowhere-at, way, lower}
 use Rattle.board.proofs.Row.{value-is}
 use Rattle.board.proofs.Test.{under-off}
 use Rattle.image.proofs.Laws.Records.{bit-below}
@@ -77,10 +77,6 @@ faulty-bit (Having (Line l s)) h x i k vs =
     ⊎-elim (λ (e : eqb i l ≡ true). rw e h) (λ (e : eqb i l ≡ false). rw e (good-bit x i k vs)) (way (eqb i l))
 faulty-bit (Having (Pin l p s)) h x i k vs = good-bit x i k (heldPins (λ u v. u) (Having (Pin l p s)) i vs)
 
-never : (t : ℕ → Bool) (os : List ℕ) → ((o : ℕ) → t o ≡ false) → somewhere t os ≡ false
-never t [] h = refl
-never t (o ∷ os) h = rw (h o, never t os h)
-
 module _ (b : Board) (low : Low b) (x : ℕ) where
   pub value-bit : (i : ℕ) → value (good x) b i < 2
   value-bit i = rw (value-is (good x) b low i) (good-bit x i (recordOf b i .kind) (map (value (good x) b) (recordOf b i .pins)))
@@ -110,7 +106,7 @@ module _ (b : Board) (low : Low b) (x : ℕ) where
     shows-through =
         ⊎-elim
         (λ (e : eqb (value (good x) b (site φ)) (value (faulty φ x) b (site φ)) ≡ true).
-        rw e (never (differs b φ x) (b .outs) (λ o. ap not (eq-eqb (value (good x) b o) (value (faulty φ x) b o) (is-good (eqb-true _ _ e) o)))))
+        rw e (nowhere-at (differs b φ x) (b .outs) (λ i l. ap not (eq-eqb _ _ (is-good (eqb-true _ _ e) (getD (b .outs) i 0))))))
         (λ (e : eqb (value (good x) b (site φ)) (value (faulty φ x) b (site φ)) ≡ false).
         rw e
         (somewhere-same (differs b φ x) (λ o. not (eqb (value (good x) b o) (value (flipped (site φ) x) b o))) (b .outs)

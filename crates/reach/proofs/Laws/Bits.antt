@@ -23,7 +23,7 @@ zero-bit j = rw zero-div
 pub and-bit : (v w j : ℕ) → bitOf (bitAnd v w) j ≡ min (bitOf v j) (bitOf w j)
 and-bit v w j = rw (and-shr v w j, and-step (v / 2 ^ j) (w / 2 ^ j)) (digits-mod _ (omega (arith, bit-low v j)))
 
-or-bit : (v w j : ℕ) → bitOf (bitOr v w) j ≡ max (bitOf v j) (bitOf w j)
+pub or-bit : (v w j : ℕ) → bitOf (bitOr v w) j ≡ max (bitOf v j) (bitOf w j)
 or-bit v w j = rw (or-shr v w j, or-step (v / 2 ^ j) (w / 2 ^ j)) (digits-mod _ (omega (arith, bit-low v j, bit-low w j)))
 
 -- two numbers together have the bits that either has

@@ -6,7 +6,7 @@ use native.Mathlib.Omega.{arith}
 use lib.ListN.{length, getD}
 use Rattle.image.specs.Image.{boardOf}
 use Rattle.find.specs.Inner.{Goes, testOf}
-use Rattle.find.proofs.Laws.Parts.{Storing, none-stored, one-stored}
+use Rattle.board.proofs.Filling.{Storing, none-stored, one-stored}
 use borrow.Author.Needs.{needs}
 use Rattle.find.proofs.blocks.note_all.Statement.{statement}
 use Rattle.find.proofs.blocks.note_all.Tie as tie

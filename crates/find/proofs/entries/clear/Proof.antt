@@ -9,7 +9,7 @@ use Rattle.board.specs.Lists.{on}
 use Rattle.board.specs.Limits.{noneMark}
 use Rattle.board.specs.Gate.{site}
 use Rattle.board.specs.Book.{faultAt}
-use Rattle.find.proofs.Laws.Parts.{Storing, none-stored, one-stored}
+use Rattle.board.proofs.Filling.{Storing, none-stored, one-stored}
 use borrow.Author.Needs.{needs}
 use Rattle.find.proofs.entries.clear.Statement.{statement}
 use Rattle.find.proofs.entries.clear.Tie as tie

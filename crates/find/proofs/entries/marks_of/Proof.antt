@@ -4,7 +4,8 @@ use Prim.Native.Nat.{_-_}
 use native.Mathlib.Omega.{arith}
 use lib.ListN.{getD}
 use Rattle.board.specs.Lists.{on}
-use Rattle.find.proofs.Laws.Parts.{on-bit, Storing, none-stored, one-stored}
+use Rattle.board.proofs.Filling.{Storing, none-stored, one-stored}
+use Rattle.board.proofs.Reach.{on-bit}
 use borrow.Author.Needs.{needs}
 use Rattle.find.proofs.entries.marks_of.Statement.{statement}
 use Rattle.find.proofs.entries.marks_of.Tie as tie

@@ -4,7 +4,7 @@ use Prim.Native.Nat.{_<_, _≤_, _-_}
 use native.Mathlib.Omega.{arith}
 use Rattle.image.specs.Image.{boardOf}
 use Rattle.lanes.specs.Inner.{size, Roomy, GoodTo}
-use Rattle.lanes.proofs.Laws.Fill.{roomy-on, good-next}
+use Rattle.lanes.proofs.Laws.Fill.{room-kept, good-next}
 use borrow.Author.Needs.{needs}
 use Rattle.lanes.proofs.fill.fill_good.Statement.{statement}
 use Rattle.lanes.proofs.fill.fill_good.Tie as tie
@@ -24,8 +24,8 @@ loop-again c =
     let inside : i < size b = omega (arith, start .pre .1) in
     let put = c .before .before .put-eight .ensures in (
       search needs,
-      roomy-on b (start .args .base) i inside put (at-loop .loop .inv .1),
-      good-next b (start .args .base) i inside put (at-loop .loop .inv .2) (c .before .before .before .before .line-words .ensures),
+      room-kept put (omega arith) (at-loop .loop .inv .1),
+      good-next b (start .args .base) i put (at-loop .loop .inv .2) (c .before .before .before .before .line-words .ensures),
     )
 
 returns : tie.Need-returns Inv-loop μ-loop
