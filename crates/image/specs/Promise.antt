@@ -6,7 +6,7 @@ use Prim.Native.Nat.{ℕ, _-_}
 use lib.ListN.{length, getD, take}
 use Rattle.image.specs.Refusals.{firstRefusal}
 use Rattle.image.specs.declared.Refusal.{Refusal}
-use Rattle.image.specs.declared.Refusal.the-variants.{Mark, Counts, Distance, Record, Output, Line, Stuck, Pattern, Lent, Alteration, Row, Pin}
+use Rattle.image.specs.declared.Refusal.the-variants.{Mark, Counts, Distance, Record, Output, Line, Stuck, Pattern, Lent, Alteration, Row, Pin, Form, Target}
 use Rattle.image.specs.declared.said.Numbers.{Numbers}
 
 -- a refusal's number, and what else is returned
@@ -23,6 +23,8 @@ numbers Lent = 9 ∷ []
 numbers Alteration = 10 ∷ []
 numbers Row = 11 ∷ []
 numbers Pin = 12 ∷ []
+numbers (Form length) = 13 ∷ length ∷ []
+numbers Target = 14 ∷ []
 
 -- what is said: a refusal's numbers, or 0 and the answer
 abbrev pub answer : Option Refusal → List ℕ → List ℕ

@@ -71,6 +71,8 @@ pub fn refused(r: Refusal) -> Numbers
         Refusal::Alteration => alone(10),
         Refusal::Row => alone(11),
         Refusal::Pin => alone(12),
+        Refusal::Form(length) => with_one(13, length as u64),
+        Refusal::Target => alone(14),
     }
 }
 

@@ -8,7 +8,7 @@ use lib.ListN.{getD}
 use Rattle.image.specs.Refusals.{firstRefusal}
 use Rattle.image.specs.Promise.{numbers, Promise, Owes}
 use Rattle.image.specs.declared.Refusal.{Refusal}
-use Rattle.image.specs.declared.Refusal.the-variants.{Mark, Counts, Distance, Record, Output, Line, Stuck, Pattern, Lent, Alteration, Row, Pin}
+use Rattle.image.specs.declared.Refusal.the-variants.{Mark, Counts, Distance, Record, Output, Line, Stuck, Pattern, Lent, Alteration, Row, Pin, Form, Target}
 
 -- what an answer's numbers tell, where each case of an answer is `done` or a refusal
 unfoldable pub read-back : {A : Type 0} → A → (Refusal → A) → List ℕ → A
@@ -27,6 +27,8 @@ read-back done refused v =
     ∷ refused Alteration
     ∷ refused Row
     ∷ refused Pin
+    ∷ refused (Form (getD v 1 0))
+    ∷ refused Target
     ∷ [])
     (getD v 0 0) done
 
@@ -45,6 +47,8 @@ module _ {A : Type 0} (done : A) (refused : Refusal → A) where
   refused-again Alteration = refl
   refused-again Row = refl
   refused-again Pin = refl
+  refused-again (Form length) = refl
+  refused-again Target = refl
 
 -- a refusal's number is not 0
 pub number-over : (r : Refusal) → 0 < getD (numbers r) 0 0
@@ -60,6 +64,8 @@ number-over Lent = lit< tt
 number-over Alteration = lit< tt
 number-over Row = lit< tt
 number-over Pin = lit< tt
+number-over (Form length) = lit< tt
+number-over Target = lit< tt
 
 -- an answer is told by its numbers
 pub record Told {A : Type 0} (says : A → List ℕ) : Type 0 where
