@@ -1,0 +1,185 @@
+-- Statements from pieces and numbers, and where those that may follow stop going along with a text.
+use mathlib.Core.Path.{_≡_, refl, sym, ap, _∙_}
+use mathlib.Core.Logic.{⊎-elim, _⊎_, inl, inr}
+use mathlib.Core.Bool.{true, false, _||_}
+use mathlib.Core.List.{List, [], _∷_, _++_, append-assoc, append-nil}
+use Prim.Native.Nat.{ℕ, zero, suc, _+_, _-_, _≤_, _<_}
+use native.Mathlib.Omega.{arith}
+use lib.Dec.{T, ltb, eqb, lit≤, lit<}
+use lib.ListN.{length, getD, take, drop, replicate, length-append, length-drop}
+use lib.Seq.{drop-drop}
+use borrow.Author.Tests.{eqb-true, eqb-false, lt-ltb}
+use Rattle.board.specs.Lists.{text, same, _among_}
+use Rattle.board.specs.Board.{Record}
+use Rattle.board.specs.Limits.{lastKind}
+use Rattle.board.proofs.Lists.{way, same-is}
+use Rattle.text.specs.Text.{decimal, each, form}
+use Rattle.drawing.specs.Form.{words, inputText, outputText, pinsText, gateText, lastNumber, Worded}
+use Rattle.drawing.specs.Inner.{pieceForms, pieceCount, piece, Stops, NoPiece, Chosen, PieceThen, NumberThen, pinsTo, Pins, pinsRest, GateRest, Statement, input, output, gate, section, Sound, an-input, an-output, a-gate, statementText, Statements}
+use Rattle.drawing.specs.declared.choose.Choice.the-variants.{Took}
+use Rattle.drawing.proofs.Laws.WriteGate.{nextPin, word-piece, input-text, output-text, gate-text}
+use Rattle.drawing.proofs.Laws.Stops.{stops-same, piece-stops, piece-behind}
+use Rattle.drawing.proofs.Laws.Pins.{pins-to, pins-some}
+
+-- the pins of a gate's text
+regroup : (a b c d e : List ℕ) → a ++ b ++ (c ++ (d ++ e)) ≡ a ++ (b ++ c ++ d ++ e)
+regroup a b c d e = simp append-assoc
+
+pins-are : (k p : ℕ) (ps : List ℕ) → decimal p ++ (each (nextPin k) ps ++ piece 3 k) ≡ pinsRest (p ∷ ps)
+unfolding piece pieceForms each
+pins-are k p [] = refl
+pins-are k p (q ∷ qs) =
+    sym (regroup (decimal p) (piece 4 0) (decimal q) (each (nextPin k) qs) (piece 3 0)) ∙ ap (λ (z : List ℕ). decimal p ++ piece 4 0 ++ z) (pins-are k q qs)
+
+-- an output's text, and a gate's
+pub output-is : (k o : ℕ) → outputText o ≡ piece 1 k ++ (decimal o ++ piece 3 0)
+unfolding piece pieceForms
+output-is k o = output-text o
+
+pub gate-is : (k : ℕ) (g : Record) → Worded g → gateText k g ≡ piece 2 k ++ (piece (4 + g .kind) 0 ++ pinsRest (g .pins))
+gate-is k g w =
+    let low = w .a-gate in
+    let high = w .a-word in
+    let is : suc (g .kind - 1) ≡ g .kind = omega arith in
+    let word : piece (4 + g .kind) k ≡ piece (4 + g .kind) 0 =
+    rw is at (word-piece k (g .kind - 1) (omega arith) ∙ sym (word-piece 0 (g .kind - 1) (omega arith))) in
+    let pins = some-pins k (g .pins) (w .some-pin) in
+    gate-text k g w ∙ ap (λ (z : List ℕ). piece 2 k ++ (piece (4 + g .kind) k ++ z)) pins ∙ ap (λ (z : List ℕ). piece 2 k ++ (z ++ pinsRest (g .pins))) word
+  where
+    some-pins : (k : ℕ) (ps : List ℕ) → 1 ≤ length ps → decimal (getD ps 0 0) ++ (each (nextPin k) (drop 1 ps) ++ piece 3 k) ≡ pinsRest ps
+    some-pins k [] l = absurd (omega arith)
+    some-pins k (p ∷ ps) l = pins-are k p ps
+
+-- the texts of up to so many pins are those of pins
+pub pins-list : (left : ℕ) (v : List ℕ) → Pins left v
+    → (ps : List ℕ) × (1 ≤ length ps) × (length ps ≤ left) × ((p : ℕ) → p among ps → p ≤ lastNumber) × (v ≡ pinsRest ps)
+pins-list zero v none-there = absurd none-there
+pins-list (suc left) v (n, few, u, (which, low, high, w, follows, e), is) =
+    ⊎-elim
+    (λ (which3, ends). (
+      n ∷ [],
+      lit≤ tt,
+      omega arith,
+      (λ p. ⊎-elim (λ (same : p ≡ n). rw same few) (λ none-there. absurd none-there)),
+      is ∙ ap (λ (z : List ℕ). decimal n ++ z) (e ∙ ap (λ (j : ℕ). piece j 0 ++ w) which3 ∙ ap (λ (z : List ℕ). piece 3 0 ++ z) ends ∙ append-nil (piece 3 0)),
+    ))
+    (λ (which4, more). behind n few u which w e is which4 (pins-list left w more))
+    follows
+  where
+    behind : (n : ℕ) → n ≤ lastNumber → (u : List ℕ) (which : ℕ) (w : List ℕ) → u ≡ piece which 0 ++ w → v ≡ decimal n ++ u → which ≡ 4
+        → (ps : List ℕ) × (1 ≤ length ps) × (length ps ≤ left) × ((p : ℕ) → p among ps → p ≤ lastNumber) × (w ≡ pinsRest ps)
+        → (ps : List ℕ) × (1 ≤ length ps) × (length ps ≤ suc left) × ((p : ℕ) → p among ps → p ≤ lastNumber) × (v ≡ pinsRest ps)
+    behind n few u which w e is which4 ([], some-pin, few-pins, numbers, so) = absurd (omega arith)
+    behind n few u which w e is which4 (q ∷ qs, some-pin, few-pins, numbers, so) = (
+      n ∷ q ∷ qs,
+      omega arith,
+      omega arith,
+      (λ p. ⊎-elim (λ (same : p ≡ n). rw same few) (λ later. numbers p later)),
+      is ∙ ap (λ (z : List ℕ). decimal n ++ z) (e ∙ ap (λ (j : ℕ). piece j 0 ++ w) which4 ∙ ap (λ (z : List ℕ). piece 4 0 ++ z) so)
+          ∙ sym (append-assoc (decimal n) (piece 4 0) (pinsRest (q ∷ qs))),
+    )
+
+pub list-pins : (left : ℕ) (ps : List ℕ) → 1 ≤ length ps → length ps ≤ left → ((p : ℕ) → p among ps → p ≤ lastNumber) → Pins left (pinsRest ps)
+list-pins left [] l few numbers = absurd (omega arith)
+list-pins zero (p ∷ ps) l few numbers = absurd (omega arith)
+list-pins (suc left) (p ∷ []) l few numbers =
+    (p, numbers p (inl refl), piece 3 0, (3, lit≤ tt, pins-to (suc left) .0, [], inl (refl, refl), sym (append-nil (piece 3 0))), refl)
+list-pins (suc left) (p ∷ q ∷ qs) l few numbers =
+    let two : 1 < suc left = omega arith in
+    let five : pinsTo (suc left) ≡ 5 = rw (lt-ltb 1 (suc left) two) in (
+      p,
+      numbers p (inl refl),
+      piece 4 0 ++ pinsRest (q ∷ qs),
+      (4, lit≤ tt, rw five (lit< tt), pinsRest (q ∷ qs), inr (refl, list-pins left (q ∷ qs) (omega arith) (omega arith) (λ r later. numbers r (inr later))), refl),
+      append-assoc (decimal p) (piece 4 0) (pinsRest (q ∷ qs)),
+    )
+
+-- what may follow the first piece of a statement
+abbrev Behind : ℕ → List ℕ → Type 0
+Behind which v = ((which ≡ 0) × (v ≡ [])) ⊎ (((which ≡ 1) × Pins 1 v) ⊎ ((which ≡ 2) × GateRest v))
+
+-- the one pin of an output
+one-pin : (v : List ℕ) → Pins 1 v → (p : ℕ) × (p ≤ lastNumber) × (v ≡ decimal p ++ piece 3 0)
+one-pin v pins = go (pins-list 1 v pins)
+  where
+    go : (ps : List ℕ) × (1 ≤ length ps) × (length ps ≤ 1) × ((p : ℕ) → p among ps → p ≤ lastNumber) × (v ≡ pinsRest ps)
+        → (p : ℕ) × (p ≤ lastNumber) × (v ≡ decimal p ++ piece 3 0)
+    go ([], some-pin, few, numbers, is) = absurd (omega arith)
+    go (p ∷ [], some-pin, few, numbers, is) = (p, numbers p (inl refl), is)
+    go (p ∷ q ∷ qs, some-pin, few, numbers, is) = absurd (omega arith)
+
+-- a gate from its word and its pins
+worded : (which : ℕ) (ps : List ℕ) → 5 ≤ which → which < pieceCount → 1 ≤ length ps → length ps ≤ 4 → ((p : ℕ) → p among ps → p ≤ lastNumber)
+    → Worded (record { kind = which - 4; pins = ps })
+worded which ps low high some-pin few numbers =
+    record { a-gate = omega arith; a-word = omega arith; some-pin = some-pin; four-pins = few; numbers = numbers }
+
+-- so the statements that may follow are the pieces and what may follow them
+to-statement : (from k : ℕ) (s : List ℕ) → PieceThen from 3 k Behind s → Statements from k s
+to-statement from k s (which, low, high, v, follows, e) =
+    ⊎-elim
+    (λ (w0, ends).
+    (input, rw w0 at low, an-input, e ∙ ap (λ (j : ℕ). piece j k ++ v) w0 ∙ ap (λ (z : List ℕ). piece 0 k ++ z) ends ∙ append-nil (piece 0 k) ∙ sym (input-text k)))
+    (⊎-elim
+    (λ (w1, pins).
+    let (o, few, is) = one-pin v pins in
+    (output o, rw w1 at low, an-output few, e ∙ ap (λ (j : ℕ). piece j k ++ v) w1 ∙ ap (λ (z : List ℕ). piece 1 k ++ z) is ∙ sym (output-is k o)))
+    (λ (w2, (word, five, thirteen, u, pins, is)).
+    let (ps, some-pin, few, numbers, so) = pins-list 4 u pins in
+    let g : Record = record { kind = word - 4; pins = ps } in
+    let w = worded word ps five thirteen some-pin few numbers in
+    let kind : word ≡ 4 + (word - 4) = omega arith in (
+      gate g,
+      rw w2 at low,
+      a-gate w,
+      e ∙ ap (λ (j : ℕ). piece j k ++ v) w2
+          ∙ ap (λ (z : List ℕ). piece 2 k ++ z) (is ∙ ap (λ (z : List ℕ). piece word 0 ++ z) so ∙ ap (λ (j : ℕ). piece j 0 ++ pinsRest ps) kind) ∙ sym (gate-is k g w),
+    )))
+    follows
+
+from-statement : (from k : ℕ) (s : List ℕ) → Statements from k s → PieceThen from 3 k Behind s
+from-statement from k s (input, low, an-input, e) = (0, low, lit< tt, [], inl (refl, refl), e ∙ input-text k ∙ sym (append-nil (piece 0 k)))
+from-statement from k s (output o, low, an-output few, e) =
+    let pins = list-pins 1 (o ∷ []) (lit≤ tt) (lit≤ tt) (λ p. ⊎-elim (λ (same : p ≡ o). rw same few) (λ none-there. absurd none-there)) in
+    (1, low, lit< tt, decimal o ++ piece 3 0, inr (inl (refl, pins)), e ∙ output-is k o)
+from-statement from k s (gate g, low, a-gate w, e) =
+    let least = w .a-gate in
+    let most = w .a-word in
+    let pins = list-pins 4 (g .pins) (w .some-pin) (w .four-pins) (w .numbers) in
+    (2, low, lit< tt, piece (4 + g .kind) 0 ++ pinsRest (g .pins), inr (inr (refl, (4 + g .kind, omega arith, omega arith, pinsRest (g .pins), pins, refl))), e ∙ gate-is k g w)
+
+-- where they stop: before the end of the first piece, and behind it
+behind-some : (from which : ℕ) → from ≤ which → which < 3 → (v : List ℕ) × Behind which v
+behind-some from zero low high = ([], inl (refl, refl))
+behind-some from (suc zero) low high = let (v, is) = pins-some 1 (lit< tt) in (v, inr (inl (refl, is)))
+behind-some from (suc (suc zero)) low high =
+    let (v, is) = pins-some 4 (lit< tt) in (piece 5 0 ++ v, inr (inr (refl, (5, lit≤ tt, lit< tt, v, is, refl))))
+behind-some from (suc (suc (suc n))) low high = absurd (omega arith)
+
+pub line-stops : {from k : ℕ} {rest : List ℕ} {m : ℕ} → NoPiece from 3 k rest m → Stops (Statements from k) rest m
+line-stops {from} {k} nowhere = stops-same (to-statement from k) (from-statement from k) (piece-stops nowhere (behind-some from))
+
+module _ (from k : ℕ) (rest : List ℕ) (n m : ℕ) where
+  behind : (which : ℕ) → from ≤ which → which < 3 → n ≡ length (piece which k) → rest ≡ piece which k ++ drop n rest → Stops (Behind which) (drop n rest) m
+      → Stops (Statements from k) rest (n + m)
+  behind which low high long is stops = rw long (stops-same (to-statement from k) (from-statement from k) (piece-behind k which low high (lit≤ tt) (rw long at is) (rw long at stops)))
+
+  pub output-stops : from ≤ 1 → n ≡ length (piece 1 k) → rest ≡ piece 1 k ++ drop n rest → Stops (Pins 1) (drop n rest) m → Stops (Statements from k) rest (n + m)
+  output-stops low long is stops =
+      behind 1 low (lit< tt) long is
+      (stops-same (λ s so. inr (inl (refl, so)))
+      (λ s. ⊎-elim (λ (w, so). absurd (omega arith)) (⊎-elim (λ (w, so). so) (λ (w, so). absurd (omega arith)))) stops)
+
+  pub gate-stops : from ≤ 2 → n ≡ length (piece 2 k) → rest ≡ piece 2 k ++ drop n rest → Stops GateRest (drop n rest) m → Stops (Statements from k) rest (n + m)
+  gate-stops low long is stops =
+      behind 2 low (lit< tt) long is
+      (stops-same (λ s so. inr (inr (refl, so)))
+      (λ s. ⊎-elim (λ (w, so). absurd (omega arith)) (⊎-elim (λ (w, so). absurd (omega arith)) (λ (w, so). so))) stops)
+
+-- a gate's, from its word on
+pub word-stops : {rest : List ℕ} {m : ℕ} → NoPiece 5 pieceCount 0 rest m → Stops GateRest rest m
+word-stops nowhere = piece-stops nowhere (λ which low high. pins-some 4 (lit< tt))
+
+pub word-behind : {rest : List ℕ} {m : ℕ} (which n : ℕ) → Chosen 5 pieceCount 0 rest (Took which n) → Stops (Pins 4) (drop n rest) m → Stops GateRest rest (n + m)
+word-behind {rest} {m} which n (low, high, long, inside, is) stops =
+    rw long (piece-behind 0 {K = λ w. Pins 4} which low high (lit≤ tt) (rw long at is) (rw long at stops))
