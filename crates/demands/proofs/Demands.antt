@@ -1,11 +1,11 @@
--- The front page: the three demands, of the calls that the bench can ask. Each call is proved to owe what it promises (and the language sees
+-- The front page: the three demands, of the calls that the bench can ask, and what is asked of drawings. Each call is proved to owe what it promises (and the language sees
 -- to it that it ends), so what follows from the promise holds of the call, for any bytes and numbers that come in.
 use mathlib.Core.Path.{_≡_}
 use mathlib.Core.Option.{Option, none}
 use mathlib.Core.List.{List, [], _∷_}
 use mathlib.Core.Bool.{true}
-use Prim.Native.Nat.{ℕ, _+_}
-use lib.ListN.{length, getD}
+use Prim.Native.Nat.{ℕ, _+_, _≤_}
+use lib.ListN.{length, getD, take}
 use Rattle.board.specs.Limits.{noneMark}
 use Rattle.board.specs.Board.{Board}
 use Rattle.board.specs.Gate.{absent}
@@ -23,10 +23,17 @@ use Rattle.find.specs.Find.{patternOf, findPromise}
 use Rattle.find.specs.Book.{bookRefusals, bookPromise}
 use Rattle.alter.specs.Alter.{Books, both, alterRefusals, alterPromise, Calls}
 use Rattle.alter.proofs.Laws.Runs.{by-sort}
+use Rattle.drawing.specs.Form.{Departs}
+use Rattle.drawing.specs.Image.{withoutNote}
+use Rattle.drawing.specs.Calls.{madeSays, inFront, ByReading, readPromise, writePromise}
+use Rattle.drawing.specs.declared.Made.{Made}
+use Rattle.drawing.proofs.Laws.ImageAgain.{Bytes}
+use Rattle.drawing.proofs.Laws.Settled.{departs-one}
+use Rattle.drawing.proofs.Calls.{read-pinned, write-read, read-write}
 use Rattle.demands.specs.Demands.{Call, TurnsAway, DifferSomewhere, SmallestTest, Has, entryOf, WholeBook, shownIn, BroughtUp}
 use Rattle.demands.proofs.Laws.{turned-away, shows-differ, differ-shows, found-smallest, filled-whole, absent-entry, brought-up, stays-whole}
 
--- Demand 1. Any bytes may come in. A bad board, line, stuck value, pin, pattern, buffer or alteration is turned away by its own number, just
+-- Demand 1. Any bytes may come in. A bad board, line, stuck value, pin, pattern, buffer, alteration or drawing is turned away by its own number, just
 -- when the papers say, and then nothing that was lent is changed.
 
 pub turns-away : {p : Promise} → Call p → {left : List (List ℕ)} {said : List ℕ} → Owes p left said → TurnsAway p left said
@@ -72,3 +79,24 @@ right-ever-after {s} {old} {book} {said} {oldPins} {pins} {heard} owes e owed f 
     let (ok, lines-whole, counted) = filled-whole Lines s old book said owes e in
     let (accepted, pins-whole, numbered) = filled-whole Pins s oldPins pins heard owed f in
     stays-right run ok (by-sort (λ sort. WholeBook sort s (both book pins sort)) lines-whole pins-whole)
+
+-- Drawings. A text that departs from the form is refused with the length of the longest beginning that some text of the form shares, which is
+-- one number; so the reader's outcome is settled, as every call's. Reading what was written gives the same image without its note, and
+-- writing what was read gives the same text.
+
+pub departs-at-one-place : (t : List ℕ) (n m : ℕ) → Departs t n → Departs t m → n ≡ m
+departs-at-one-place = departs-one
+
+pub reading-settled : (t target : List ℕ) (a b : Made) (left later : List (List ℕ)) → ByReading t (λ is. Owes (readPromise is target) left (madeSays a))
+    → ByReading t (λ is. Owes (readPromise is target) later (madeSays b)) → (a ≡ b) × (left ≡ later)
+reading-settled = read-pinned
+
+pub written-read : (s target after : List ℕ) (n : ℕ) → Bytes s → Owes (writePromise s target) (after ∷ []) (0 ∷ n ∷ [])
+    → (room left said : List ℕ) → length (withoutNote s) ≤ length room → ByReading (take n after) (λ is. Owes (readPromise is room) (left ∷ []) said)
+    → (left ≡ inFront (withoutNote s) room) × (said ≡ 0 ∷ length (withoutNote s) ∷ [])
+written-read = write-read
+
+pub read-written : (t room after : List ℕ) (n : ℕ) → ByReading t (λ is. Owes (readPromise is room) (after ∷ []) (0 ∷ n ∷ []))
+    → (target left said : List ℕ) → length t ≤ length target → Owes (writePromise (take n after) target) (left ∷ []) said
+    → (left ≡ inFront t target) × (said ≡ 0 ∷ length t ∷ [])
+read-written = read-write

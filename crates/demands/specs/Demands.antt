@@ -31,6 +31,7 @@ use Rattle.find.specs.Find.{findPromise}
 use Rattle.find.specs.Book.{bookPromise}
 use Rattle.alter.specs.Patch.{patched}
 use Rattle.alter.specs.Alter.{Books, alterPromise}
+use Rattle.drawing.specs.Calls.{Reading, Reads, readPromise, writePromise}
 
 -- the calls, each with what it promises for what it is given; Show has no refusal, and its own promise
 pub data Call : Promise → Type 0 where
@@ -42,6 +43,8 @@ pub data Call : Promise → Type 0 where
   Find : (img : List ℕ) (fault : Fault) → Call (findPromise img fault)
   Book : (sort : Sort) (img entries : List ℕ) → Call (bookPromise sort img entries)
   Alter : (img : List ℕ) (books : Books) (line : ℕ) (new : List ℕ) → Call (alterPromise img books line new)
+  Read : (text target : List ℕ) (is : Reading) → Reads text is → Call (readPromise is target)
+  Write : (img target : List ℕ) → Call (writePromise img target)
 
 -- demand 1, of a call that promised p, said this and left this of what was lent: it is turned away by the numbers of the first refusal that
 -- applies, which do not begin with 0, and then what was lent is unchanged; 0 is said first where none applies
