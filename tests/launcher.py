@@ -7,6 +7,7 @@ import fcntl
 import os
 import re
 import shutil
+import signal
 import subprocess
 import tempfile
 import time
@@ -37,12 +38,12 @@ trap 'rmdir ../busy' EXIT
 cd repository && mkdir -p target/bin target/stamp target/log
 begins base && told 1 '(base)' && ends base
 begins side wing && told 1 '(side wing)' && ends wing && told 1 '(side)' && ends side
-begins tool && told 1 '(tool)' && ends tool
+begins $2 && told 1 "($2)" && ends $2
 told 3 waiting
-[ ! -f ../before ] || mv ../before crates/tool/src/main.rt
-cmp -s crates/tool/src/main.rt target/stamp/tool || cp crates/tool/src/main.rt target/bin/tool
-cp crates/tool/src/main.rt target/stamp/tool
-[ ! -f ../after ] || mv ../after crates/tool/src/main.rt
+[ ! -f ../before ] || mv ../before crates/$2/src/main.rt
+cmp -s crates/$2/src/main.rt target/stamp/$2 || cp crates/$2/src/main.rt target/bin/$2
+cp crates/$2/src/main.rt target/stamp/$2
+[ ! -f ../after ] || mv ../after crates/$2/src/main.rt
 echo "rt: ok, 4 crates proved"
 """
 LOADER = '#!/bin/sh\n[ "$1" = --library-path ] && shift 2 && exec sh "$@"\n'
@@ -53,6 +54,17 @@ FILES = {
 }
 PROVING = r"bench: proving tool: crate ([1-4]) of 4 \(([\w ]+)\), [0-9]+ s"
 WAITING = r"bench: waiting for another run that proves here, [0-9]+ s"
+REFUSES = "cat >/dev/null; echo refused 13 at 7 >&2\n"
+# what a filter's program does, its source, and the exit status, output and words that the launcher owes for it on the input 'in'
+FILTERS = [
+    ("gives its words and its input", "printf ' <%s>' \"$@\"; cat\n", (0, " <a b>in\n", "")),
+    ("writes nothing", "cat >/dev/null\n", (0, "", "")),
+    ("refuses", REFUSES, (1, "", "refused 13 at 7\n")),
+    ("says an empty line", "echo >&2\n", (1, "", "\n")),
+    ("says more than a pipe holds", "yes no | head -n 40000 >&2\n", (1, "", "no\n" * 40000)),
+    ("fails", "exit 3\n", (3, "", "")),
+    ("fails and says why", "echo no >&2; exit 3\n", (3, "", "no\n")),
+]
 
 def program(word):
     """The source of a program that writes a word, its arguments and its input."""
@@ -67,10 +79,11 @@ def put(path, text):
 
 
 class Room:
-    """A scratch repository with the launcher, beside a stand-in for the kit."""
+    """A scratch repository with the launcher, beside a stand-in for the kit and a folder for what a program keeps for a while."""
 
     def __init__(self, folder):
         """The launcher's copy, the crates' files, and the kit."""
+        (folder / "tmp").mkdir()
         self.folder, self.repository = folder, folder / "repository"
         self.crates, self.target, self.said = self.repository / "crates", self.repository / "target", folder / "said"
         self.tools = folder / "kit/on" / os.uname().machine / "toolchain"
@@ -92,7 +105,7 @@ class Room:
 
     def start(self, *words, said=subprocess.PIPE):
         """The launcher, started on the input 'in'."""
-        path = {**os.environ, "PATH": f"{self.folder}:{os.environ['PATH']}"}
+        path = {**os.environ, "PATH": f"{self.folder}:{os.environ['PATH']}", "TMPDIR": str(self.folder / "tmp")}
         with open(self.folder / "in") as given:
             return subprocess.Popen([self.repository / "bench", *words], cwd="/", env=path, text=True,
                                     stdin=given, stdout=subprocess.PIPE, stderr=said)
@@ -101,7 +114,7 @@ class Room:
         """The launcher's exit status, output and words, but for those that it has on a slow machine."""
         started = self.start(*words)
         out, said = started.communicate(timeout=60)
-        return started.returncode, out, re.sub(rf"{PROVING}\n", "", said)
+        return started.returncode, out, re.sub(r"bench: proving .*\n", "", said)
 
     def expect(self, name, calls, word):
         """Checks that the program of a word is run, after so many proofs."""
@@ -213,6 +226,45 @@ def waits_for_the_gate(room):
     count("goes on", (waiting.returncode, out, room.calls()) == (0, "five <>\nin\n", 1), (waiting.returncode, out))
 
 
+def runs_filters(room):
+    """A filter's status is its program's, or 1 where that is 0 and it said anything; another program is run in the launcher's place."""
+    for name in ("read", "write"):
+        for does, source, owed in FILTERS:
+            put(room.crates / name / "src/main.rt", source)
+            ended = room.run(name, "a b")
+            count(f"{name}, a program that {does}", ended == owed, ended)
+    put(room.crates / "read/src/main.rt", "kill -9 $$\n")
+    status, out, _ = room.run("read")
+    count("a filter that is killed", (status, out) == (137, ""), (status, out))
+    put(room.crates / "book/src/main.rt", "echo $$\n" + REFUSES)
+    room.run("--build", "book")
+    started = room.start("book")
+    ended = (*started.communicate(timeout=60), started.returncode)
+    count("book", ended == (f"{started.pid}\n", "refused 13 at 7\n", 0), ended)
+    room.calls()
+
+
+def ends_filters(room):
+    """A signal to the launcher ends a filter's program too, which holds the output; a reader that goes away ends both; nothing is left."""
+    put(room.crates / "read/src/main.rt", "echo begun; exec sleep 50\n")
+    room.run("--build", "read")
+    for number in (signal.SIGHUP, signal.SIGINT, signal.SIGTERM):
+        started = room.start("read")
+        begun = started.stdout.readline()
+        started.send_signal(number)
+        ended = (begun, *started.communicate(timeout=30), started.returncode)
+        count(f"{number.name} to a filter", ended == ("begun\n", "", "", -number), ended)
+    put(room.crates / "read/src/main.rt", "exec yes\n")
+    with room.start("read") as started:
+        started.stdout.readline()
+        started.stdout.close()
+        status = started.wait(timeout=30)
+    count("a filter whose reader goes away", status == 128 + signal.SIGPIPE, status)
+    left = list((room.folder / "tmp").iterdir())
+    count("nothing is left behind", not left, left)
+    room.calls()
+
+
 def takes_words(room):
     """What the launcher's own words do, and that a kit's emulator is used where it has one."""
     put(room.crates / "tool/src/main.rt", program("seven"))
@@ -231,6 +283,7 @@ def takes_words(room):
 
 with tempfile.TemporaryDirectory() as folder:
     room = Room(Path(folder))
-    for part in (four_at_once, proves_by_content, refuses_unproved, runs_nothing_else, proves_what_it_runs, waits_for_the_gate, takes_words):
+    for part in (four_at_once, proves_by_content, refuses_unproved, runs_nothing_else, proves_what_it_runs, waits_for_the_gate, runs_filters,
+                 ends_filters, takes_words):
         part(room)
 end()
