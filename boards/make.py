@@ -1,7 +1,7 @@
 #!/usr/bin/env python3
-"""Makes the sample images of document 01 beside this file.
+"""Makes the sample images of document 01 and their drawings beside this file.
 
-    boards/make.py          writes boards/S.img, T.img and H.img
+    boards/make.py          writes boards/S.img, T.img and H.img, and boards/S.txt, T.txt and H.txt
     boards/make.py --check  says whether those files, and the images on the bench sheet, are what this script makes
 """
 import re
@@ -12,6 +12,8 @@ from pathlib import Path
 HERE = Path(__file__).resolve().parent
 MARK = bytes.fromhex("42524431")
 INPUT, BUFFER, NOT, AND, NAND, OR, NOR, XOR, XNOR = range(9)
+# a gate's word in a drawing, by its kind
+WORDS = ["", "BUFF", "NOT", "AND", "NAND", "OR", "NOR", "XOR", "XNOR"]
 
 
 def record(kind, *pins):
@@ -24,6 +26,18 @@ def image(records, outputs, note=b""):
     distance = 12 + 2 * len(outputs) + 10 * len(records)
     trailer = struct.pack("<HHI", len(records), len(outputs), distance) + MARK
     return note + b"".join(records) + b"".join(struct.pack("<H", o) for o in outputs) + trailer
+
+
+def drawing(img):
+    """The drawing of a good image: its inputs, its outputs and its gates, a statement a line."""
+    lines, _, distance = struct.unpack("<HHI", img[-12:-4])
+    whole = img[-distance:]
+    records = list(struct.iter_unpack("<BB4H", whole[:10 * lines]))
+    statements = [f"INPUT(n{line})" for line, record in enumerate(records) if record[0] == INPUT]
+    statements += [f"OUTPUT(n{output})" for output, in struct.iter_unpack("<H", whole[10 * lines:-12])]
+    statements += [f"n{line} = {WORDS[kind]}({', '.join(f'n{pin}' for pin in pins[:count])})"
+                   for line, (kind, count, *pins) in enumerate(records) if kind != INPUT]
+    return "".join(statement + "\n" for statement in statements).encode()
 
 
 def changed(img, at, new):
@@ -50,16 +64,13 @@ def on_the_sheet(name):
     return bytes.fromhex("".join(re.findall(r'"([^"]*)"', definition)).replace("/", " "))
 
 
-FILES = {
-    HERE / "S.img": S,
-    HERE / "T.img": T,
-    HERE / "H.img": H,
-}
+SAMPLES = {"S": S, "T": T, "H": H}
+FILES = {HERE / f"{name}.img": data for name, data in SAMPLES.items()} | {HERE / f"{name}.txt": drawing(data) for name, data in SAMPLES.items()}
 
 if __name__ == "__main__":
     if sys.argv[1:] == ["--check"]:
         stale = [str(p) for p, data in FILES.items() if not p.exists() or p.read_bytes() != data]
-        stale += [f"{SHEET}: {name}" for name, data in (("S", S), ("T", T), ("H", H)) if on_the_sheet(name) != data]
+        stale += [f"{SHEET}: {name}" for name, data in SAMPLES.items() if on_the_sheet(name) != data]
         print("not what boards/make.py makes: " + ", ".join(stale) if stale else "boards: as made")
         sys.exit(1 if stale else 0)
     for path, data in FILES.items():
