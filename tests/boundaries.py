@@ -8,6 +8,8 @@ Its last line is 'N passed, M failed'.
 """
 import argparse
 import subprocess
+import tempfile
+from pathlib import Path
 
 import counted
 import programs
@@ -16,6 +18,7 @@ from shapes import make
 record, image, changed = make.record, make.image, make.changed
 INPUT, BUFFER, NOT, AND, OR, XOR, XNOR, T = make.INPUT, make.BUFFER, make.NOT, make.AND, make.OR, make.XOR, make.XNOR, make.T
 NONE = 4294967295
+S_COUNTS, T_COUNTS = "board 12 lines 4 inputs 1 outputs", "board 3 lines 1 inputs 1 outputs"
 
 
 def chain(lines):
@@ -536,9 +539,414 @@ ON_FIRST = [(f"the last of {n} alone", last_alone(n), f"board {n + 1} lines {n} 
 # T's book twice over, so that a second filling starts from a filled one
 TWICE = [("book", "found 2 of 6"), ("book", "found 2 of 6"), ("entries", book("entries", (NONE, 2), (0, 1), (NONE, 1), (0, 1), (NONE, 1)))]
 
-BEFORE_LOAD = [("pin entries", "pins"), ("pin book", "refused 1"), ("find 0.0/0", "refused 1"), ("put pin 0 1", "?")]
+# document 02, W5: drawings as text
+
+
+def read(text):
+    """The command that reads a text."""
+    return f"read {text.encode('latin-1').hex() or '-'}"
+
+
+# texts that depart from the form, and the length of the longest beginning that some text of the form shares
+DEPARTS = [
+    # what begins no statement
+    ("x", 0),
+    ("\n", 0),
+    (" INPUT(n0)\n", 0),
+    ("input(n0)\n", 0),
+    ("N0 = NOT(n0)\n", 0),
+    ("\xff", 0),
+    ("\0", 0),
+    ("INPUT(n0)\n\n", 10),
+    ("INPUT(n0)\nx", 10),
+    ("INPUT(n0)\n\0", 10),
+    ("INPUT(n0)\n INPUT(n1)\n", 10),
+    # a text that ends too soon shares all of itself
+    ("I", 1),
+    ("INPUT(n", 7),
+    ("INPUT(n0", 8),
+    ("INPUT(n0)", 9),
+    ("O", 1),
+    ("OUTPUT(n1", 9),
+    ("OUTPUT(n65535", 13),
+    ("n", 1),
+    ("n0 = ", 5),
+    ("n0 = X", 6),
+    ("n0 = XNOR", 9),
+    ("n0 = NOR(n1,", 12),
+    ("n0 = NOR(n1, n2)", 16),
+    ("INPUT(n0)\nOUTPUT(n2)\nn1 = NOT(n0)\nn2 = OR(n0, n1)", 49),
+    # INPUT: its number is the next one
+    ("INPUT(n1)\n", 7),
+    ("INPUT(n00)\n", 8),
+    ("INPUT(n01)\n", 8),
+    ("INPUT(n)\n", 7),
+    ("INPUT()\n", 6),
+    ("INPUT(0)\n", 6),
+    ("INPUT(N0)\n", 6),
+    ("INPUT( n0)\n", 6),
+    ("INPUT (n0)\n", 5),
+    ("INPUTS(n0)\n", 5),
+    ("Input(n0)\n", 1),
+    ("INPUT(n0 )\n", 8),
+    ("INPUT(n0, n1)\n", 8),
+    ("INPUT(n0)\r\n", 9),
+    ("INPUT(n0) \n", 9),
+    ("INPUT(n0);\n", 9),
+    ("INPUT(n0)INPUT(n1)\n", 9),
+    ("INPUT(n0)\nINPUT(n0)\n", 17),
+    ("INPUT(n0)\nINPUT(n2)\n", 17),
+    ("INPUT(n0)\nINPUT(n10)\n", 18),
+    # OUTPUT: any number up to 65,535
+    ("OUTPUT(n65536)\n", 12),
+    ("OUTPUT(n65540)\n", 12),
+    ("OUTPUT(n99999)\n", 12),
+    ("OUTPUT(n100000)\n", 13),
+    ("OUTPUT(n655350)\n", 13),
+    ("OUTPUT(n4294967296)\n", 13),
+    ("OUTPUT(n18446744073709551616)\n", 13),
+    ("OUTPUT(n00)\n", 9),
+    ("OUTPUT(n01)\n", 9),
+    ("OUTPUT(n)\n", 8),
+    ("OUTPUT()\n", 7),
+    ("OUTPUT(n-1)\n", 8),
+    ("OUTPUT(n+1)\n", 8),
+    ("OUTPUT(n1a)\n", 9),
+    ("OUTPUT(n0x1)\n", 9),
+    ("OUTPUT(n1.0)\n", 9),
+    ("OUTPUT(n1, n2)\n", 9),
+    ("Output(n0)\n", 1),
+    ("OUTPUT(n0)\r\n", 10),
+    # inputs, then outputs, then gates
+    ("OUTPUT(n0)\nINPUT(n0)\n", 11),
+    ("INPUT(n0)\nn1 = NOT(n0)\nOUTPUT(n1)\n", 23),
+    ("INPUT(n0)\nn1 = NOT(n0)\nINPUT(n1)\n", 23),
+    ("n0 = NOT(n0)\nINPUT(n1)\n", 13),
+    # a gate's number is the next one
+    ("n1 = NOT(n0)\n", 1),
+    ("n00 = NOT(n0)\n", 2),
+    ("n01 = NOT(n0)\n", 2),
+    ("INPUT(n0)\nn0 = NOT(n0)\n", 11),
+    ("INPUT(n0)\nn2 = NOT(n0)\n", 11),
+    ("INPUT(n0)\nn01 = NOT(n0)\n", 11),
+    ("INPUT(n0)\nn10 = NOT(n0)\n", 12),
+    ("INPUT(n0)\nn1 = NOT(n0)\nn1 = NOT(n0)\n", 24),
+    ("INPUT(n0)\nn1 = NOT(n0)\nn3 = NOT(n0)\n", 24),
+    # one space each side of =, one after each comma, and no other
+    ("n0= NOT(n0)\n", 2),
+    ("n0\t= NOT(n0)\n", 2),
+    ("n0  = NOT(n0)\n", 3),
+    ("n0 == NOT(n0)\n", 4),
+    ("n0 =NOT(n0)\n", 4),
+    ("n0 =  NOT(n0)\n", 5),
+    ("n0 = NOT (n0)\n", 8),
+    ("n0 = NOT( n0)\n", 9),
+    ("n0 = NOT(n0 )\n", 11),
+    ("n0 = AND(n0,n0)\n", 12),
+    ("n0 = AND(n0,  n0)\n", 13),
+    ("n0 = AND(n0 , n0)\n", 11),
+    ("n0 = AND(n0, n0) \n", 16),
+    ("n0 = AND(n0, n0)\r\n", 16),
+    # words
+    ("n0 = (n0)\n", 5),
+    ("n0 = B(n0)\n", 6),
+    ("n0 = BUF(n0)\n", 8),
+    ("n0 = BUFFER(n0)\n", 9),
+    ("n0 = N(n0)\n", 6),
+    ("n0 = NO(n0)\n", 7),
+    ("n0 = NOTE(n0)\n", 8),
+    ("n0 = NORX(n0)\n", 8),
+    ("n0 = NA(n0)\n", 7),
+    ("n0 = NAN(n0)\n", 8),
+    ("n0 = NANOR(n0)\n", 8),
+    ("n0 = NANDS(n0)\n", 9),
+    ("n0 = A(n0)\n", 6),
+    ("n0 = AN(n0)\n", 7),
+    ("n0 = ANDX(n0)\n", 8),
+    ("n0 = O(n0)\n", 6),
+    ("n0 = ORN(n0)\n", 7),
+    ("n0 = X(n0)\n", 6),
+    ("n0 = XAND(n0)\n", 6),
+    ("n0 = XO(n0)\n", 7),
+    ("n0 = XORN(n0)\n", 8),
+    ("n0 = XN(n0)\n", 7),
+    ("n0 = XNAND(n0)\n", 7),
+    ("n0 = XNO(n0)\n", 8),
+    ("n0 = XNOT(n0)\n", 8),
+    ("n0 = XNORS(n0)\n", 9),
+    ("n0 = not(n0)\n", 5),
+    ("n0 = And(n0)\n", 6),
+    ("n0 = INPUT(n0)\n", 5),
+    ("n0 = TIE0()\n", 5),
+    # one to four pins
+    ("n0 = AND()\n", 9),
+    ("n0 = AND(0)\n", 9),
+    ("n0 = AND(n)\n", 10),
+    ("n0 = AND(n0\n", 11),
+    ("n0 = AND(n0))\n", 12),
+    ("n0 = AND(n0,)\n", 12),
+    ("n0 = AND(n0, )\n", 13),
+    ("n0 = AND(n0; n0)\n", 11),
+    ("n0 = AND(n00)\n", 11),
+    ("n0 = AND(n7x)\n", 11),
+    ("n0 = AND(n65536)\n", 14),
+    ("n0 = AND(n0, n0, n0, n65536)\n", 26),
+    ("n0 = AND(n0, n0, n0, n0, n0)\n", 23),
+    ("n0 = NOT(n0, n1, n2, n3,)\n", 23),
+]
+
+
+def drawn(*gates, outputs=(0,), inputs=1):
+    """The text of so many inputs, these outputs and these gates, each as its word and pins, numbered on."""
+    statements = [f"INPUT(n{i})" for i in range(inputs)] + [f"OUTPUT(n{i})" for i in outputs]
+    statements += [f"n{inputs + i} = {gate}" for i, gate in enumerate(gates)]
+    return "".join(statement + "\n" for statement in statements)
+
+
+def buffers(lines):
+    """The gates of a chain of so many lines."""
+    return [f"BUFF(n{i})" for i in range(lines - 1)]
+
+
+# texts of the form, and what document 01's rules say of the board that they name
+NAMED = [
+    ("", "refused 2"),
+    ("INPUT(n0)\n", "refused 2"),
+    ("OUTPUT(n0)\n", "refused 2"),
+    ("OUTPUT(n65535)\n", "refused 2"),
+    ("n0 = NOT(n0)\n", "refused 2"),
+    ("n0 = AND(n65535)\n", "refused 2"),
+    (drawn("AND(n0)", outputs=()), "refused 2"),
+    (drawn(outputs=range(64)), "refused 5 at 1"),
+    (drawn(outputs=range(65)), "refused 2"),
+    (drawn(*buffers(64), outputs=range(64)), "read 780"),
+    (drawn(*buffers(65), outputs=range(65)), "refused 2"),
+    (drawn(*buffers(512), outputs=[511]), "read 5134"),
+    (drawn(*buffers(513), outputs=[511]), "refused 2"),
+    (drawn(*buffers(512), "NOT(n512, n512)", outputs=[600]), "refused 2"),
+    (drawn(inputs=24), "read 254"),
+    (drawn(inputs=25), "refused 4 at 24.0"),
+    (drawn(inputs=512), "refused 4 at 24.0"),
+    (drawn(inputs=513), "refused 2"),
+    (drawn("AND(n0)", inputs=25), "refused 4 at 24.0"),
+    # a board of gates alone
+    (drawn("NOT(n0)", inputs=0), "refused 4 at 0.2"),
+    (drawn("NOT(n0, n0)", inputs=0), "refused 4 at 0.1"),
+    (drawn("AND(n0, n0)", "NOT(n0)", inputs=0), "refused 4 at 0.2"),
+    # a pin count wrong for its kind, before a bad pin
+    (drawn("BUFF(n0, n0)"), "refused 4 at 1.1"),
+    (drawn("NOT(n0, n0)"), "refused 4 at 1.1"),
+    (drawn("NOT(n9, n9, n9, n9)"), "refused 4 at 1.1"),
+    (drawn("AND(n0)"), "refused 4 at 1.1"),
+    (drawn("NAND(n0)"), "refused 4 at 1.1"),
+    (drawn("OR(n0)"), "refused 4 at 1.1"),
+    (drawn("NOR(n0)"), "refused 4 at 1.1"),
+    (drawn("XOR(n0)"), "refused 4 at 1.1"),
+    (drawn("XNOR(n65535)"), "refused 4 at 1.1"),
+    # a pin not below its line, at its field
+    (drawn("NOT(n1)"), "refused 4 at 1.2"),
+    (drawn("AND(n0, n1)"), "refused 4 at 1.3"),
+    (drawn("AND(n0, n0, n7, n9)"), "refused 4 at 1.4"),
+    (drawn("AND(n0, n0, n0, n65535)"), "refused 4 at 1.5"),
+    # the first bad record, and before any output
+    (drawn("NOT(n0)", "OR(n0, n1, n2)", "NOT(n0, n0)", outputs=[9]), "refused 4 at 2.4"),
+    (drawn("NOT(n0)", "NOT(n0, n0)", "OR(n9, n9)", outputs=[1, 1]), "refused 4 at 2.1"),
+    # outputs in any order are of the form, and have to rise
+    (drawn("NOT(n0)", outputs=[2]), "refused 5 at 0"),
+    (drawn("NOT(n0)", outputs=[65535]), "refused 5 at 0"),
+    (drawn("NOT(n0)", outputs=[1, 0]), "refused 5 at 1"),
+    (drawn("NOT(n0)", outputs=[1, 1]), "refused 5 at 1"),
+    (drawn("NOT(n0)", outputs=[0, 1, 65535]), "refused 5 at 2"),
+    (drawn("NOT(n0)", outputs=[0, 65535, 1]), "refused 5 at 1"),
+    (drawn("NOT(n0)", outputs=[0, 1, 0, 1]), "refused 5 at 2"),
+    (drawn("NOT(n0)", outputs=[0, 1]), "read 36"),
+    # the longest text that the command takes: 5,954 of 11 bytes and three of 14
+    ("OUTPUT(n0)\n" * 5954 + "OUTPUT(n1000)\n" * 3, "refused 2"),
+    ("OUTPUT(n0)\n" * 5954 + "OUTPUT(n1000)\n" * 2 + "OUTPUT(n1000)", "refused 13 at 65535"),
+    ("OUTPUT(n0)\n" * 5954 + "OUTPUT(n1000)\n" * 3 + "O", "? too many bytes"),
+]
+
+T_TEXT = "INPUT(n0)\nOUTPUT(n2)\nn1 = NOT(n0)\nn2 = OR(n0, n1)\n"
+H_TEXT = "INPUT(n0)\nINPUT(n1)\nOUTPUT(n2)\nOUTPUT(n3)\nn2 = NOT(n0)\nn3 = BUFF(n1)\n"
+# one gate of each word; lines 1 to 8 are of kinds 1 to 8, and their pins stand in no order
+WORDS_TEXT = ("INPUT(n0)\nOUTPUT(n0)\nOUTPUT(n8)\nn1 = BUFF(n0)\nn2 = NOT(n1)\nn3 = AND(n2, n0)\nn4 = NAND(n3, n0, n3)\nn5 = OR(n4, n1, n2, n0)\n"
+              "n6 = NOR(n5, n5)\nn7 = XOR(n0, n6, n1)\nn8 = XNOR(n7, n0, n6, n2)\n")
+WORDS = image([record(INPUT), record(1, 0), record(2, 1), record(3, 2, 0), record(4, 3, 0, 3), record(5, 4, 1, 2, 0), record(6, 5, 5),
+               record(7, 0, 6, 1), record(8, 7, 0, 6, 2)], [0, 8])
+
+
+def held(data, beyond=0):
+    """The target's answer where it holds these bytes, and so many 9s beyond them."""
+    return f"target {(data + bytes([9]) * beyond).hex() or '-'}"
+
+
+# the reader's target, beside board H: T's image is 44 bytes. 14 is tested last, and a refusal leaves the target alone
+TARGET_OF_READ = [
+    ("lend target 44", "lent"),
+    (read(T_TEXT), "read 44"),
+    ("target", held(T)),
+    ("lend target 43", "lent"),
+    (read(T_TEXT), "refused 14"),
+    ("target", held(b"", 43)),
+    ("lend target 50", "lent"),
+    (read(T_TEXT), "read 44"),
+    ("target", held(T, 6)),
+    (read(T_TEXT[:-1]), "refused 13 at 49"),
+    (read(""), "refused 2"),
+    (read(H_TEXT), "refused 14"),
+    ("target", held(T, 6)),
+    (read(drawn()), "read 24"),
+    ("target", held(image([record(INPUT)], [0]) + T[24:], 6)),
+    ("lend target 116", "lent"),
+    (read(WORDS_TEXT), "read 106"),
+    ("target", held(WORDS, 10)),
+    ("lend target 0", "lent"),
+    ("target", "target -"),
+    (read("INPUT(n1)\n"), "refused 13 at 7"),
+    (read(T_TEXT + "x"), "refused 13 at 50"),
+    (read(""), "refused 2"),
+    (read(drawn("AND(n0)")), "refused 4 at 1.1"),
+    (read(drawn(outputs=[0, 0])), "refused 5 at 1"),
+    (read(T_TEXT), "refused 14"),
+    ("target", "target -"),
+    ("lend target 262144", "lent"),
+    ("lend target 262145", "? too many"),
+    ("lend target 18446744073709551615", "? too many"),
+    (read(T_TEXT), "read 44"),
+    ("target", held(T, 262100)),
+    ("lend target 3", "lent"),
+    ("image", "image " + make.H.hex()),
+    ("load " + T.hex(), T_COUNTS),
+    ("target", held(b"", 3)),
+]
+
+# the writer's target: T's drawing is 50 bytes
+TARGET_OF_WRITE = [
+    ("lend target 50", "lent"),
+    ("write", "wrote 50"),
+    ("target", held(T_TEXT.encode())),
+    ("lend target 49", "lent"),
+    ("write", "refused 14"),
+    ("target", held(b"", 49)),
+    ("lend target 0", "lent"),
+    ("write", "refused 14"),
+    ("target", "target -"),
+    ("lend target 60", "lent"),
+    ("write", "wrote 50"),
+    ("target", held(T_TEXT.encode(), 10)),
+    ("image", "image " + T.hex()),
+    ("load " + make.H.hex(), "board 4 lines 2 inputs 2 outputs"),
+    ("write", "refused 14"),
+    ("target", held(T_TEXT.encode(), 10)),
+    ("lend target 70", "lent"),
+    ("write", "wrote 69"),
+    ("target", held(H_TEXT.encode(), 1)),
+    ("load " + WORDS.hex(), "board 9 lines 1 inputs 2 outputs"),
+    ("lend target 187", "lent"),
+    ("write", "wrote 186"),
+    ("target", held(WORDS_TEXT.encode(), 1)),
+]
+
+# a note is not drawn, and so what was written gives the image without it
+NOTED = image([record(INPUT), record(NOT, 0), record(OR, 0, 1)], [2], note=make.H)
+ON_NOTED = [
+    ("lend target 52", "lent"),
+    ("write", "wrote 50"),
+    ("target", held(T_TEXT.encode(), 2)),
+    ("image", "image " + NOTED.hex()),
+    (read(T_TEXT), "read 44"),
+    ("target", held(T + T_TEXT.encode()[44:], 2)),
+]
+
+# images that the writer refuses as Check does
+NOT_WRITTEN = [row for row in IMAGES if row[2].startswith("refused")]
+
+
+def not_written(said):
+    """What is asked of the writer on such an image: it says so before 14, and leaves what the reader has put into the target."""
+    return [("lend target 0", "lent"), ("write", said), ("lend target 44", "lent"), (read(T_TEXT), "read 44"), ("write", said), ("target", held(T))]
+
+
+# words of these commands that can't be read
+BAD_WORDS = ["read", "read 0", "read 4g", "read 49 4e", "read  49", "write 1", "write -", "target 1", "target -", "lend target", "lend target -1",
+             "lend target x", "lend target 1 1", "import", "export", "import a b", "export a b", "Read -", "WRITE"]
+
+INPUTS_65537 = "".join(f"INPUT(n{i})\n" for i in range(65537))  # 906,408 bytes; the last is 14
+# texts of the form at the limit of what import takes: 12,923 of 11 bytes and one of 15 bring them to 1,048,576
+LONGEST_TEXT = INPUTS_65537 + "OUTPUT(n0)\n" * 12923 + "OUTPUT(n65535)\n"
+FILES = {
+    "T.txt": T_TEXT,
+    "H.txt": H_TEXT,
+    "empty.txt": "",
+    "off.txt": "INPUT(n1)\n",
+    "bad.txt": drawn("NOT(n1)"),
+    "65537.txt": INPUTS_65537 + "OUTPUT(n0)\n",
+    "again.txt": INPUTS_65537 + "INPUT(n1)\n",
+    "next.txt": INPUTS_65537 + "n65537 = NOT(n0)\n",
+    "from0.txt": INPUTS_65537[:-14] + "n0 = NOT(n0)\n",
+    "longest.txt": LONGEST_TEXT,
+    "cut.txt": LONGEST_TEXT[:-1],
+    "longer.txt": LONGEST_TEXT + "\n",
+    "kept.txt": "kept\n",
+    "over.txt": "x" * 999,
+}
+# what import and export do, in a folder with these files
+ON_FILES = [
+    ("lend target 3", "lent"),
+    ("put entry 0 7", "lent"),
+    ("put good 07", "lent"),
+    ("import FOLDER/none.txt", "? cannot read"),
+    ("import FOLDER", "? cannot read"),
+    ("import FOLDER/longer.txt", "? cannot read"),
+    ("import FOLDER/off.txt", "refused 13 at 7"),
+    ("import FOLDER/empty.txt", "refused 2"),
+    ("import FOLDER/bad.txt", "refused 4 at 1.2"),
+    ("import FOLDER/65537.txt", "refused 2"),
+    ("import FOLDER/next.txt", "refused 2"),
+    ("import FOLDER/again.txt", "refused 13 at 906415"),
+    ("import FOLDER/from0.txt", "refused 13 at 906395"),
+    ("import FOLDER/longest.txt", "refused 2"),
+    ("import FOLDER/cut.txt", "refused 13 at 1048575"),
+    ("image", "image " + T.hex()),
+    ("entries", book("entries", (7, 1), (99, 5))),
+    ("show good 0", "row 07"),
+    ("import FOLDER/H.txt", "board 4 lines 2 inputs 2 outputs"),
+    ("image", "image " + make.H.hex()),
+    ("entries", book("entries", (99, 8))),
+    ("pin entries", book("pins", (99, 32))),
+    ("show good 0", "row 09090909"),
+    ("show faulty 0", "row 09090909"),
+    ("target", held(b"", 3)),
+    ("export FOLDER/new.txt", "saved"),
+    ("import FOLDER/T.txt", T_COUNTS),
+    ("import FOLDER/new.txt", "board 4 lines 2 inputs 2 outputs"),
+    ("export FOLDER/none/new.txt", "?"),
+    ("export FOLDER", "?"),
+    ("load " + NOTED.hex(), T_COUNTS),
+    ("export FOLDER/over.txt", "saved"),
+    ("image", "image " + NOTED.hex()),
+    ("target", held(b"", 3)),
+    ("load " + REFUSED.hex(), "refused 5 at 0"),
+    ("export FOLDER/kept.txt", "refused 5 at 0"),
+    ("export FOLDER/not.txt", "refused 5 at 0"),
+    ("export FOLDER/none/new.txt", "refused 5 at 0"),
+    ("import FOLDER/bad.txt", "refused 4 at 1.2"),
+    ("image", "image " + REFUSED.hex()),
+]
+# the files that are then in the folder and were not, or hold something else
+LEFT = {"new.txt": H_TEXT, "over.txt": T_TEXT}
+
+BEFORE_LOAD = [
+    ("pin entries", "pins"),
+    ("pin book", "refused 1"),
+    ("find 0.0/0", "refused 1"),
+    ("put pin 0 1", "?"),
+    ("target", "target -"),
+    ("write", "refused 1"),
+    ("export FOLDER/not.txt", "refused 1"),
+    (read(T_TEXT), "refused 14"),
+]
 # a board's name and image, what Check says of it, and what is asked of it
-S_COUNTS, T_COUNTS = "board 12 lines 4 inputs 1 outputs", "board 3 lines 1 inputs 1 outputs"
 ASKED = [
     ("T", T, T_COUNTS, ON_T),
     ("S", make.S, S_COUNTS, ON_S),
@@ -561,17 +969,32 @@ ASKED = [
     ("T", T, T_COUNTS, TWICE),
     *ON_LAST,
     *ON_FIRST,
+    ("H", make.H, "board 4 lines 2 inputs 2 outputs", TARGET_OF_READ),
+    ("T", T, T_COUNTS, TARGET_OF_WRITE),
+    ("T with a note", NOTED, T_COUNTS, ON_NOTED),
+    ("T", T, T_COUNTS, ON_FILES),
 ]
 
 
-def everything():
+def drawings():
+    """What is asked of drawings beside a board's own questions, as name, command and answer."""
+    asked = [("a target with room enough", "lend target 5516", "lent")]
+    asked += [(f"read {text!r}", read(text), f"refused 13 at {length}") for text, length in DEPARTS]
+    asked += [(f"read {text[:80]!r}", read(text), said) for text, said in NAMED]
+    for name, data, said in NOT_WRITTEN:
+        asked.append((name, f"load {data.hex() or '-'}", said))
+        asked += [(f"{name}: {command[:80]}", command, answer) for command, answer in not_written(said)]
+    return asked + [(f"no command: {line}", line, "?") for line in BAD_WORDS]
+
+
+def everything(folder):
     """All that is asked, in turn, as name, command and answer."""
     asked = [(f"before load: {command}", command, said) for command, said in BEFORE_LOAD]
     asked += [(name, f"load {data.hex() or '-'}", said) for name, data, said in IMAGES]
     for board, data, counts, questions in ASKED:
         asked.append((board, f"load {data.hex()}", counts))
-        asked += [(f"{board}: {command}", command, said) for command, said in questions]
-    return asked
+        asked += [(f"{board}: {command[:80]}", command, said) for command, said in questions]
+    return [(name, command.replace("FOLDER", folder), said) for name, command, said in asked + drawings()]
 
 
 def is_right(said, answer):
@@ -579,20 +1002,31 @@ def is_right(said, answer):
     return answer == said or said == "?" and answer.startswith("? ")
 
 
-def main():
-    """Asks everything in one run, and says what was answered otherwise."""
-    words = argparse.ArgumentParser(description=__doc__, formatter_class=argparse.RawDescriptionHelpFormatter)
-    words.add_argument("--product", nargs="+", default=[programs.LAUNCHER], help="another program to ask")
-    product = words.parse_args().product
-    if product[0] == programs.LAUNCHER:
-        programs.build("bench")
-    asked = everything()
+def ask(product, folder):
+    """Asks everything in one run, and says what was answered otherwise, and which files are not what they should be then."""
+    for name, text in FILES.items():
+        Path(folder, name).write_bytes(text.encode())
+    asked = everything(folder)
     script = "".join(command + "\n" for _, command, _ in asked)
     written = subprocess.run(product, input=script, stdout=subprocess.PIPE, text=True, check=True, timeout=600).stdout
     answers = written.split("\n")[:-1]
     counted.count("one answer a command", len(answers) == len(asked), f"{len(answers)} for {len(asked)}")
     for (name, _, said), answer in zip(asked, answers):
-        counted.count(name, is_right(said, answer), f"expected {said!r}, found {answer!r}")
+        counted.count(name, is_right(said, answer), f"expected {said[:200]!r}, found {answer[:200]!r}")
+    owed, left = FILES | LEFT, {path.name: path.read_bytes().decode("latin-1") for path in Path(folder).iterdir()}
+    for name in sorted(owed | left):
+        counted.count(f"file {name}", left.get(name) == owed.get(name), f"holds {left.get(name, 'nothing')[:80]!r}")
+
+
+def main():
+    """Everything, of the product or of another program."""
+    words = argparse.ArgumentParser(description=__doc__, formatter_class=argparse.RawDescriptionHelpFormatter)
+    words.add_argument("--product", nargs="+", default=[programs.LAUNCHER], help="another program to ask")
+    product = words.parse_args().product
+    if product[0] == programs.LAUNCHER:
+        programs.build("bench")
+    with tempfile.TemporaryDirectory() as folder:
+        ask(product, folder)
     counted.end()
 
 
