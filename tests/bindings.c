@@ -1,5 +1,5 @@
 /* The exported calls from C: every refusal on board T, with its number and values and nothing lent changed; the fault's numbers as each call
-   that takes them hears them; both books; exclusive-or of three. bindings boards
+   that takes them hears them; both books; exclusive-or of three; drawings. bindings boards
    Its last line is 'N passed, M failed'. */
 #include "../bindings/c/fortizembo.h"
 #include <inttypes.h>
@@ -11,9 +11,9 @@
 _Static_assert(sizeof(fortizembo_fault) == 24 && offsetof(fortizembo_fault, pin) == 8, "two numbers of eight bytes come first");
 _Static_assert(offsetof(fortizembo_fault, sort) == 16 && offsetof(fortizembo_fault, stuck) == 17, "then two bytes");
 
-enum { CHECK = 1, ROWS = 2, JUDGE = 4, REFRESH = 8, FIVE = 16, FIND = 32, BOOK = 64, PIN_BOOK = 128, ALTER = 256, ALL = 511 };
+enum { CHECK = 1, ROWS = 2, JUDGE = 4, REFRESH = 8, FIVE = 16, FIND = 32, BOOK = 64, PIN_BOOK = 128, ALTER = 256, WRITE = 512, ALL = 1023 };
 enum { FAULT = ROWS | JUDGE | FIVE | FIND, PATTERN = ROWS | JUDGE | REFRESH, LENT = ROWS | REFRESH | FIVE | BOOK | PIN_BOOK | ALTER };
-static const char *const names[9] = {"check", "rows", "judge", "refresh", "five", "find", "book", "pin_book", "alter"};
+static const char *const names[10] = {"check", "rows", "judge", "refresh", "five", "find", "book", "pin_book", "alter", "write"};
 
 /* What a call is asked. */
 typedef struct {
@@ -21,13 +21,13 @@ typedef struct {
     uint64_t pattern, named, values;
     size_t line, pin;
     uint8_t sort, stuck;
-    size_t good_length, faulty_length, row_length, entries, pin_entries;
+    size_t good_length, faulty_length, row_length, entries, pin_entries, target_length;
     uint8_t record[10];
 } question;
 
 /* All that is lent beside a record. */
 typedef struct {
-    uint8_t image[512], good[4], faulty[4], row[4];
+    uint8_t image[512], good[4], faulty[4], row[4], target[64];
     uint32_t book[32], pins[32];
 } room;
 
@@ -36,7 +36,7 @@ typedef struct {
     size_t length;
 } board;
 
-static const question fine = {44, 1, 1, 1, 2, 0, 0, 0, 3, 3, 3, 6, 24, {5, 2, 0, 0, 1, 0, 0, 0, 0, 0}};
+static const question fine = {44, 1, 1, 1, 2, 0, 0, 0, 3, 3, 3, 6, 24, 50, {5, 2, 0, 0, 1, 0, 0, 0, 0, 0}};
 static const uint8_t sorts[3] = {0, 1, 255};
 static room blank;
 static int passed, failed;
@@ -63,6 +63,7 @@ static fortizembo_answer call(unsigned which, const question *q, room *r)
     case FIND: return fortizembo_find(image, q->length, fault);
     case BOOK: return fortizembo_book(image, q->length, r->book, q->entries);
     case PIN_BOOK: return fortizembo_pin_book(image, q->length, r->pins, q->pin_entries);
+    case WRITE: return fortizembo_write(image, q->length, r->target, q->target_length);
     default: return fortizembo_alter(image, q->length, r->book, q->entries, r->pins, q->pin_entries, q->line, q->record);
     }
 }
@@ -70,7 +71,7 @@ static fortizembo_answer call(unsigned which, const question *q, room *r)
 /* Asks some calls: each says that number, with those values, and where it refuses all that was lent is as before. */
 static void says(unsigned calls, const room *lent, question q, const char *why, uint64_t number, uint64_t values, uint64_t first, uint64_t second)
 {
-    for (unsigned i = 0; i < 9; i++) {
+    for (unsigned i = 0; i < 10; i++) {
         if ((calls >> i & 1) == 0)
             continue;
         room r = *lent;
@@ -237,6 +238,58 @@ static void bad_records(void)
     says(REFRESH, &r, fine, "a byte over 1 before the line", 11, 0, 0, 0);
 }
 
+/* 14: a target that is too short, after what is wrong with the image. */
+static void bad_targets(void)
+{
+    static const size_t lengths[] = {0, 1, 44, 49};
+    const room r = with_byte(14, 3);
+    question q = fine;
+    for (unsigned i = 0; i < sizeof lengths / sizeof *lengths; i++) {
+        q.target_length = lengths[i];
+        says(WRITE, &blank, q, "a target too short for T's drawing", 14, 0, 0, 0);
+        says(WRITE, &r, q, "output line 3 of 3, and a target too short", 5, 1, 0, 0);
+    }
+}
+
+/* A text, and the number and values that refuse it, whether the target is as long as may be or empty. */
+typedef struct {
+    const char *text;
+    uint64_t number, values, first, second;
+} turned_away;
+
+static const turned_away bad_texts[] = {
+    {"", 2, 0, 0, 0},
+    {"INPUT(n0)\n", 2, 0, 0, 0},
+    {"x", 13, 1, 0, 0},
+    {"INPUT(n1)\n", 13, 1, 7, 0},
+    {"INPUT(n0)", 13, 1, 9, 0},
+    {"OUTPUT(n65536)\n", 13, 1, 12, 0},
+    {"n0 = NO(n0)\n", 13, 1, 7, 0},
+    {"n0 = AND()\n", 13, 1, 9, 0},
+    {"n0 = AND(n0, n0, n0, n0, n0)\n", 13, 1, 23, 0},
+    {"INPUT(n0)\nOUTPUT(n0)\nn1 = NOT(n0, n0)\n", 4, 2, 1, 1},
+    {"INPUT(n0)\nOUTPUT(n0)\nn1 = AND(n0, n0, n0, n65535)\n", 4, 2, 1, 5},
+    {"INPUT(n0)\nOUTPUT(n0)\nOUTPUT(n0)\n", 5, 1, 1, 0},
+};
+
+/* What Read turns away, 14 last: T's image is 44 bytes. The target keeps its bytes. */
+static void bad_drawings(const board *t_text)
+{
+    uint8_t target[64], before[64];
+    memset(target, 9, sizeof target);
+    memset(before, 9, sizeof before);
+    for (unsigned i = 0; i < 2 * sizeof bad_texts / sizeof *bad_texts; i++) {
+        const turned_away *t = &bad_texts[i / 2];
+        const fortizembo_answer a = fortizembo_read((const uint8_t *)t->text, strlen(t->text), target, i % 2 * sizeof target);
+        check(a.number == t->number && a.values == t->values && a.first == t->first && a.second == t->second && a.third == 0, "read", t->text);
+    }
+    for (size_t length = 0; length < 44; length++) {
+        const fortizembo_answer a = fortizembo_read(t_text->bytes, t_text->length, target, length);
+        check(a.number == 14 && a.values == 0 && a.first == 0 && a.second == 0 && a.third == 0, "read", "a target too short for T's image");
+    }
+    check(memcmp(target, before, sizeof before) == 0, "read", "the target of what is refused");
+}
+
 /* A fault of T, and what the calls owe of it for a pattern: worked out by hand. A line's names a pin that is not there, and has no use for it. */
 typedef struct {
     const char *name;
@@ -400,12 +453,36 @@ static void exclusive_or(void)
           "five", "exclusive-or of 1,1,x");
 }
 
-/* A sample board, with length 0 where it cannot be read. */
+typedef fortizembo_answer maker(const uint8_t *, size_t, uint8_t *, size_t);
+
+/* What Read or Write makes of one file in a target as long as it needs, and in one that is longer: the other file, and 9s beyond it. */
+static void makes(maker *call, const board *from, const board *to, const char *name, const char *why)
+{
+    uint8_t target[256], owed[256];
+    memset(target, 9, sizeof target);
+    memset(owed, 9, sizeof owed);
+    memcpy(owed, to->bytes, to->length);
+    check(gives(call(from->bytes, from->length, target, to->length), (uint32_t)to->length) && memcmp(target, owed, sizeof owed) == 0, name, why);
+    memset(target, 9, sizeof target);
+    check(gives(call(from->bytes, from->length, target, sizeof target), (uint32_t)to->length) && memcmp(target, owed, sizeof owed) == 0, name, why);
+}
+
+/* A board there and back, and with a note, which is not drawn. */
+static void drawings(const board *img, const board *text, const char *why)
+{
+    board noted = {{0}, img->length + 99};
+    memcpy(noted.bytes + 99, img->bytes, img->length);
+    makes(fortizembo_read, text, img, "read", why);
+    makes(fortizembo_write, img, text, "write", why);
+    makes(fortizembo_write, &noted, text, "write with a note", why);
+}
+
+/* A sample file, with length 0 where it cannot be read. */
 static board load(const char *folder, const char *name)
 {
     board read = {{0}, 0};
     char path[4096];
-    snprintf(path, sizeof path, "%s/%s.img", folder, name);
+    snprintf(path, sizeof path, "%s/%s", folder, name);
     FILE *file = fopen(path, "rb");
     if (file == NULL)
         return read;
@@ -417,14 +494,16 @@ static board load(const char *folder, const char *name)
 int main(int argc, char **argv)
 {
     const char *folder = argc == 2 ? argv[1] : "boards";
-    const board s = load(folder, "S"), t = load(folder, "T"), h = load(folder, "H");
-    if (s.length != 134 || t.length != 44 || h.length != 56) {
+    const board s = load(folder, "S.img"), t = load(folder, "T.img"), h = load(folder, "H.img");
+    const board s_text = load(folder, "S.txt"), t_text = load(folder, "T.txt"), h_text = load(folder, "H.txt");
+    if (s.length != 134 || t.length != 44 || h.length != 56 || s_text.length != 199 || t_text.length != 50 || h_text.length != 69) {
         printf("no boards S, T and H\n");
         return 1;
     }
     memcpy(blank.image + sizeof blank.image - 44, t.bytes, 44);
     memset(blank.book, 0xA5, sizeof blank.book);
     memset(blank.pins, 0x5A, sizeof blank.pins);
+    memset(blank.target, 9, sizeof blank.target);
     says_of_both(ALL, &blank, fine, "what is fine", 0, 0, 0, 0);
     bad_images();
     bad_faults();
@@ -432,11 +511,16 @@ int main(int argc, char **argv)
     bad_patterns();
     bad_lengths();
     bad_records();
+    bad_targets();
+    bad_drawings(&t_text);
     heard_by_t(&t);
     faults_of_s(&s);
     pin_book_of_t(&t);
     alterations(&t, &h);
     exclusive_or();
+    drawings(&s, &s_text, "S");
+    drawings(&t, &t_text, "T");
+    drawings(&h, &h_text, "H");
     printf("%d passed, %d failed\n", passed, failed);
     return failed != 0;
 }

@@ -18,7 +18,7 @@ from programs import ROOT
 ARCHIVE = ROOT / "target/staticlib/libexports.a"
 ROOM = ROOT / "target/bindings"
 TARGET = "x86_64-unknown-linux-gnu"
-CALLS = ("alter", "book", "check", "find", "five", "judge", "pin_book", "refresh", "rows", "show")
+CALLS = ("alter", "book", "check", "find", "five", "judge", "pin_book", "read", "refresh", "rows", "show", "write")
 
 # the sheet of document 01, and rows and pin books worked out by hand
 C_EXAMPLE = """\
@@ -60,6 +60,15 @@ alter T 2: 0 5
   pins of 1: 1 none none none none none none none
   pins of 2: none 0 none 1 none none none none
 find T 2/1: 0 0
+write T: 0 50
+INPUT(n0)
+OUTPUT(n2)
+n1 = NOT(n0)
+n2 = OR(n0, n1)
+read it: 0 44
+  the same image
+read it without its last line feed: 13 49
+write T in 49 bytes: 14
 book H: 0 8
   book 1 0 2 0 0 1 2 0
 pin book H: 0 4
@@ -91,6 +100,13 @@ book T: Entries(2) [4294967295, 4294967295, 0, 4294967295, 0, 4294967295]
 pin book T: Entries(3) [4294967295, 0] [1, 4294967295, 0, 4294967295]
 alter T 2: Entries(5) [4294967295, 4294967295, 4294967295, 1, 4294967295, 0]
 its used pins: [1, 4294967295] [4294967295, 0, 4294967295, 1]
+write it: Bytes(51)
+INPUT(n0)
+OUTPUT(n2)
+n1 = NOT(n0)
+n2 = AND(n0, n1)
+read that: Bytes(44), the same image: true
+read it without its last line feed: Refused(Form(50))
 """
 
 def run(name, command, **words):
@@ -125,7 +141,7 @@ def tools():
 
 
 def symbols():
-    """The archive defines the ten calls and needs nothing but memcpy and memset."""
+    """The archive defines the twelve calls and needs nothing but memcpy and memset."""
     listed = [line.split() for line in run("nm", ["nm", "-g", ARCHIVE]).splitlines() if re.search(r" [TU] ", line)]
     count("defined", {f"fortizembo_{c}" for c in CALLS} == {s[-1] for s in listed if s[-2] == "T"}, listed)
     count("needed", {s[-1] for s in listed if s[-2] == "U"} <= {"memcpy", "memset"}, listed)

@@ -3,6 +3,7 @@
 #include <inttypes.h>
 #include <stdio.h>
 #include <stdlib.h>
+#include <string.h>
 
 typedef struct {
     uint8_t bytes[256];
@@ -121,6 +122,20 @@ static void board_t(image t)
     say("find T 2/1", fortizembo_find(t.bytes, t.length, fortizembo_line_fault(2, 1)));
 }
 
+/* Board T as a drawing, and the image that it gives; a text that ends too soon, and a target that is too short. */
+static void drawing_of_t(image t)
+{
+    uint8_t text[64], again[64];
+    const fortizembo_answer written = fortizembo_write(t.bytes, t.length, text, sizeof text);
+    say("write T", written);
+    fwrite(text, 1, written.first, stdout);
+    const fortizembo_answer made = fortizembo_read(text, written.first, again, sizeof again);
+    say("read it", made);
+    printf("  %s image\n", made.first == t.length && memcmp(again, t.bytes, t.length) == 0 ? "the same" : "another");
+    say("read it without its last line feed", fortizembo_read(text, written.first - 1, again, sizeof again));
+    say("write T in 49 bytes", fortizembo_write(t.bytes, t.length, text, 49));
+}
+
 /* Board H: an untouched entry keeps what it held, also an absent pin's, and a touched one of an absent pin becomes none. */
 static void board_h(image h)
 {
@@ -143,6 +158,7 @@ int main(int argc, char **argv)
     line_of_s(load(folder, "S"));
     pin_of_s(load(folder, "S"));
     board_t(load(folder, "T"));
+    drawing_of_t(load(folder, "T"));
     board_h(load(folder, "H"));
     return 0;
 }

@@ -1,10 +1,10 @@
 /* The calls of Fortizembo for C. Link with target/staticlib/libexports.a, which `rt staticlib exports` proves and writes for x86-64 Linux;
    beside it only memcpy and memset of the C library are needed.
 
-   What a call owes is proved for every image, fault, pattern, line and length: whatever is bad is refused by its number, and then nothing that was
-   lent is changed. No proof can see what stands behind a pointer. So this is the caller's duty, as C has it:
-   - a pointer is not null, and as many elements as its length says are there, bytes for an image or a row, uint32_t for a book, ten bytes for a
-     record; so also where the length is 0;
+   What a call owes is proved for every image, text, fault, pattern, line and length: whatever is bad is refused by its number, and then nothing that
+   was lent is changed. No proof can see what stands behind a pointer. So this is the caller's duty, as C has it:
+   - a pointer is not null, and as many elements as its length says are there, bytes for an image, a row, a text or a target, uint32_t for a book,
+     ten bytes for a record; so also where the length is 0;
    - a buffer without const may be written, overlaps no other buffer of the call, so that two books lie apart, and nobody else uses it while
      the call runs;
    - a number fits its parameter's type: C cuts a wider one before the call, so that stuck value 256 would arrive as 0 (see -Wconversion).
@@ -46,9 +46,10 @@ static inline fortizembo_fault fortizembo_pin_fault(size_t line, size_t pin, uin
 
 /* An answer in the numbers of documents 01 and 02. */
 typedef struct {
-    uint64_t number; /* 0, or the refusal's number: 1 to 12. 12, a pin not below its gate's pin count, is tested after 7 and before 8. */
+    uint64_t number; /* 0, or the refusal's number: 1 to 14. 12, a pin not below its gate's pin count, is tested after 7 and before 8; 13, a text that
+                        is no drawing, first; 14, a target too short, last. */
     uint64_t values; /* how many values are returned beside it */
-    uint64_t first;  /* these; 0 where there is none. Refusal 4 returns line and field, 5 the place, no other any. */
+    uint64_t first;  /* these; 0 where there is none. Refusal 4 returns line and field, 5 the place, 13 a length, no other any. */
     uint64_t second;
     uint64_t third;
 } fortizembo_answer;
@@ -86,6 +87,14 @@ fortizembo_answer fortizembo_pin_book(const uint8_t *image, size_t length, uint3
    none. Refusals 1-5, 6, 9 for either book, 10. */
 fortizembo_answer fortizembo_alter(uint8_t *image, size_t length, uint32_t *book, size_t entries, uint32_t *pins, size_t pin_entries, size_t line,
                                    const uint8_t record[10]);
+
+/* Read: puts the image of the board that a drawing names in front of the target, without a note; its length, 5,260 at most. The target beyond it
+   keeps its bytes. Refusals 13, with the length of the longest beginning of the text that some drawing shares, 2, 4, 5, 14. */
+fortizembo_answer fortizembo_read(const uint8_t *text, size_t text_length, uint8_t *target, size_t target_length);
+
+/* Write: puts the drawing of the image's board in front of the target; its length, under 20,000. The target beyond it keeps its bytes. Refusals
+   1-5, 14. */
+fortizembo_answer fortizembo_write(const uint8_t *image, size_t length, uint8_t *target, size_t target_length);
 
 #ifdef __cplusplus
 }

@@ -28,4 +28,10 @@ fn main() {
     let and_0_1 = [3, 2, 0, 0, 1, 0, 0, 0, 0, 0];
     println!("alter T 2: {:?} {entries:?}", alter(&mut t, &mut entries, &mut pins, 2, and_0_1));
     println!("its used pins: {:?} {:?}", &pins[8..10], &pins[16..20]);
+
+    let (mut text, mut again) = ([0; 51], [0; 44]);
+    println!("write it: {:?}", write(&t, &mut text));
+    print!("{}", String::from_utf8_lossy(&text));
+    println!("read that: {:?}, the same image: {}", read(&text, &mut again), again[..] == t[..]);
+    println!("read it without its last line feed: {:?}", read(&text[..50], &mut again));
 }

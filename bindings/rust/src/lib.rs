@@ -20,7 +20,7 @@ pub enum Fault {
     Pin { line: usize, pin: usize, stuck: u8 },
 }
 
-/// Why the bench says no, by document 01's table and document 02's number 12.
+/// Why the bench says no, by document 01's table and document 02's numbers 12 to 14.
 #[derive(Clone, Copy, Debug, PartialEq, Eq)]
 pub enum Refusal {
     Mark,
@@ -35,6 +35,8 @@ pub enum Refusal {
     Alteration,
     Row,
     Pin,
+    Form(usize),
+    Target,
 }
 
 /// The line, input and output counts of an image.
@@ -89,6 +91,13 @@ pub enum Counted {
     Refused(Refusal),
 }
 
+/// How many bytes Read or Write put in front of the target.
+#[derive(Clone, Copy, Debug, PartialEq, Eq)]
+pub enum Made {
+    Bytes(usize),
+    Refused(Refusal),
+}
+
 /// The values of an answer that refuses nothing, or the refusal.
 fn heard(a: Answer) -> Result<[u64; 3], Refusal> {
     Err(match a.number {
@@ -105,6 +114,8 @@ fn heard(a: Answer) -> Result<[u64; 3], Refusal> {
         10 => Refusal::Alteration,
         11 => Refusal::Row,
         12 => Refusal::Pin,
+        13 => Refusal::Form(a.first as usize),
+        14 => Refusal::Target,
         n => unreachable!("no refusal has number {n}"),
     })
 }
@@ -202,4 +213,21 @@ pub fn pin_book(img: &[u8], entries: &mut [Entry]) -> Counted {
 pub fn alter(img: &mut [u8], book: &mut [Entry], pins: &mut [Entry], line: usize, record: [u8; 10]) -> Counted {
     let (i, b, p) = (img.as_mut_ptr(), book.as_mut_ptr(), pins.as_mut_ptr());
     counted(unsafe { raw::fortizembo_alter(i, img.len(), b, book.len(), p, pins.len(), line, record.as_ptr()) })
+}
+
+fn made(a: Answer) -> Made {
+    match heard(a) {
+        Ok([n, ..]) => Made::Bytes(n as usize),
+        Err(r) => Made::Refused(r),
+    }
+}
+
+/// Read: puts the image of the board that a drawing names in front of the target, without a note; 5,260 bytes hold any.
+pub fn read(text: &[u8], target: &mut [u8]) -> Made {
+    made(unsafe { raw::fortizembo_read(text.as_ptr(), text.len(), target.as_mut_ptr(), target.len()) })
+}
+
+/// Write: puts the drawing of the image's board in front of the target; 20,000 bytes hold any.
+pub fn write(img: &[u8], target: &mut [u8]) -> Made {
+    made(unsafe { raw::fortizembo_write(img.as_ptr(), img.len(), target.as_mut_ptr(), target.len()) })
 }

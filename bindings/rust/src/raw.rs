@@ -72,4 +72,6 @@ extern "C" {
         line: usize,
         record: *const u8,
     ) -> Answer;
+    pub fn fortizembo_read(text: *const u8, len: usize, target: *mut u8, target_len: usize) -> Answer;
+    pub fn fortizembo_write(img: *const u8, len: usize, target: *mut u8, target_len: usize) -> Answer;
 }

@@ -1,9 +1,13 @@
 //! Each call with the papers' numbers, and each refusal with nothing lent changed.
 use fortizembo::*;
-use std::fs::read;
+use std::fs;
+
+fn sample(name: &str) -> Vec<u8> {
+    fs::read(format!("{}/../../boards/{name}", env!("CARGO_MANIFEST_DIR"))).expect("a sample")
+}
 
 fn board(name: &str) -> Vec<u8> {
-    read(format!("{}/../../boards/{name}.img", env!("CARGO_MANIFEST_DIR"))).expect("a sample board")
+    sample(&format!("{name}.img"))
 }
 
 fn at(line: usize, stuck: u8) -> Fault {
@@ -232,4 +236,65 @@ fn bad_books_and_alterations_are_refused_and_nothing_is_changed() {
     let (lines_lent, pins_lent) = (&mut entries[..6], &mut pin_entries[..24]);
     assert_eq!(alter(&mut t, lines_lent, pins_lent, 0, NOT_1), Counted::Refused(Refusal::Alteration));
     assert_eq!((t, entries, pin_entries), (old, [7; 24], [8; 25]));
+}
+
+/// What was made, with 9s beyond it up to so many bytes.
+fn with_nines(made: &[u8], length: usize) -> Vec<u8> {
+    [made, &vec![9; length - made.len()][..]].concat()
+}
+
+#[test]
+fn drawings_there_and_back_leave_the_target_beyond() {
+    for (name, text_length, image_length) in [("S", 199, 134), ("T", 50, 44), ("H", 69, 56)] {
+        let (img, text) = (board(name), sample(&format!("{name}.txt")));
+        for beyond in [0, 1, 300] {
+            let (mut drawn, mut imaged) = (vec![9; text_length + beyond], vec![9; image_length + beyond]);
+            assert_eq!(write(&img, &mut drawn), Made::Bytes(text_length));
+            assert_eq!(read(&text, &mut imaged), Made::Bytes(image_length));
+            assert_eq!(drawn, with_nines(&text, text_length + beyond));
+            assert_eq!(imaged, with_nines(&img, image_length + beyond));
+        }
+    }
+}
+
+#[test]
+fn a_note_is_not_drawn() {
+    let (noted, mut drawn) = ([board("H"), board("T")].concat(), [9; 50]);
+    assert_eq!(write(&noted, &mut drawn), Made::Bytes(50));
+    assert_eq!(drawn[..], sample("T.txt"));
+}
+
+#[test]
+fn bad_texts_are_refused_and_nothing_is_changed() {
+    let mut target = [9; 64];
+    for (text, refusal) in [
+        ("", Refusal::Counts),
+        ("INPUT(n1)\n", Refusal::Form(7)),
+        ("INPUT(n0)", Refusal::Form(9)),
+        ("OUTPUT(n65536)\n", Refusal::Form(12)),
+        ("n0 = NO(n0)\n", Refusal::Form(7)),
+        ("n0 = AND(n0, n0, n0, n0, n0)\n", Refusal::Form(23)),
+        ("INPUT(n0)\nOUTPUT(n0)\nn1 = NOT(n0, n0)\n", Refusal::Record { line: 1, field: 1 }),
+        ("INPUT(n0)\nOUTPUT(n0)\nn1 = AND(n0, n1)\n", Refusal::Record { line: 1, field: 3 }),
+        ("INPUT(n0)\nOUTPUT(n0)\nOUTPUT(n0)\n", Refusal::Output(1)),
+    ] {
+        for length in [0, 64] {
+            assert_eq!(read(text.as_bytes(), &mut target[..length]), Made::Refused(refusal));
+        }
+    }
+    assert_eq!(target, [9; 64]);
+}
+
+#[test]
+fn bad_targets_are_refused_last_and_nothing_is_changed() {
+    let (s, mut target) = (board("S"), [9; 199]);
+    for length in [0, 1, 133, 198] {
+        assert_eq!(write(&s, &mut target[..length]), Made::Refused(Refusal::Target));
+    }
+    for length in [0, 1, 133] {
+        assert_eq!(read(&sample("S.txt"), &mut target[..length]), Made::Refused(Refusal::Target));
+        assert_eq!(write(&s[..133], &mut target[..length]), Made::Refused(Refusal::Mark));
+        assert_eq!(write(&s[1..], &mut target[..length]), Made::Refused(Refusal::Distance));
+    }
+    assert_eq!(target, [9; 199]);
 }
