@@ -729,6 +729,10 @@ NAMED = [
     (drawn(inputs=512), "refused 4 at 24.0"),
     (drawn(inputs=513), "refused 2"),
     (drawn("AND(n0)", inputs=25), "refused 4 at 24.0"),
+    # 13 is tested before them all
+    (drawn(inputs=513) + "x", "refused 13 at 6057"),
+    (drawn("AND(n0)") + "x", "refused 13 at 34"),
+    (drawn(outputs=[0, 0]) + "n1 = NOT(n0)", "refused 13 at 44"),
     # a board of gates alone
     (drawn("NOT(n0)", inputs=0), "refused 4 at 0.2"),
     (drawn("NOT(n0, n0)", inputs=0), "refused 4 at 0.1"),
@@ -872,6 +876,7 @@ BAD_WORDS = ["read", "read 0", "read 4g", "read 49 4e", "read  49", "write 1", "
              "lend target x", "lend target 1 1", "import", "export", "import a b", "export a b", "Read -", "WRITE"]
 
 INPUTS_65537 = "".join(f"INPUT(n{i})\n" for i in range(65537))  # 906,408 bytes; the last is 14
+GATES_50000 = drawn(*["NOT(n0)"] * 50000)  # 838,915 bytes
 # texts of the form at the limit of what import takes: 12,923 of 11 bytes and one of 15 bring them to 1,048,576
 LONGEST_TEXT = INPUTS_65537 + "OUTPUT(n0)\n" * 12923 + "OUTPUT(n65535)\n"
 FILES = {
@@ -884,6 +889,10 @@ FILES = {
     "again.txt": INPUTS_65537 + "INPUT(n1)\n",
     "next.txt": INPUTS_65537 + "n65537 = NOT(n0)\n",
     "from0.txt": INPUTS_65537[:-14] + "n0 = NOT(n0)\n",
+    "outputs.txt": drawn(outputs=[0] * 65537),
+    "gates.txt": GATES_50000,
+    "gates-cut.txt": GATES_50000[:-1],
+    "lines.txt": drawn(*["NOT(n0)"] * 25537, inputs=40000),
     "longest.txt": LONGEST_TEXT,
     "cut.txt": LONGEST_TEXT[:-1],
     "longer.txt": LONGEST_TEXT + "\n",
@@ -905,6 +914,10 @@ ON_FILES = [
     ("import FOLDER/next.txt", "refused 2"),
     ("import FOLDER/again.txt", "refused 13 at 906415"),
     ("import FOLDER/from0.txt", "refused 13 at 906395"),
+    ("import FOLDER/outputs.txt", "refused 2"),
+    ("import FOLDER/gates.txt", "refused 2"),
+    ("import FOLDER/gates-cut.txt", "refused 13 at 838914"),
+    ("import FOLDER/lines.txt", "refused 2"),
     ("import FOLDER/longest.txt", "refused 2"),
     ("import FOLDER/cut.txt", "refused 13 at 1048575"),
     ("image", "image " + T.hex()),
