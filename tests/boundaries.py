@@ -1,5 +1,5 @@
 #!/usr/bin/env python3
-"""The papers' boundaries, through the console: images and the answers that the papers have for them, written by hand side by side.
+"""The papers' boundaries, through the console: images, drawings and the answers that the papers have for them, written by hand side by side.
 
     tests/boundaries.py                          the product's console
     tests/boundaries.py --product PROGRAM ...    another program in its place
