@@ -142,10 +142,10 @@ pub fn put_text(img: &[u8], counts: Counts, target: &mut [u8])
     requires { ⌜ Known (now img) counts × (length (textOf (boardOf (now img))) ≤ length (now target)) ⌝ }
     ensures { λ _. ⌜ now (target .exit) ≡ inFront (textOf (boardOf (now (img .entry)))) (now (target .entry)) ⌝ }
 {
-    let count = counts.lines + counts.outputs;
+    let end = counts.lines + counts.outputs;
     let mut at = 0;
     let mut j = 0;
-    while j < count {
+    while j < end {
         at = add_statement(img, counts, j, target, at);
         j += 1;
     }

@@ -15,18 +15,18 @@ use Rattle.drawing.proofs.statements.put_text.Statement.{statement}
 use Rattle.drawing.proofs.statements.put_text.Tie as tie
 
 abbrev Inv-loop : tie.InvT-loop
-Inv-loop img counts target₀ count at₀ j₀ target at j =
+Inv-loop img counts target₀ end at₀ j₀ target at j =
     let made = statements (boardOf img) 0 j in
-    (j ≤ count) × (at ≡ length made) × (target ≡ inFront made target₀)
+    (j ≤ end) × (at ≡ length made) × (target ≡ inFront made target₀)
 
 abbrev μ-loop : tie.MeasureT-loop
-μ-loop img counts target₀ count at₀ j₀ target at j = count - j
+μ-loop img counts target₀ end at₀ j₀ target at j = end - j
 
 few : (c : tie.Start Inv-loop μ-loop) → c .args .counts .lines + c .args .counts .outputs < 2 ^ 20
 few c = let known = c .pre .0 in omega (arith, known .lines-are, known .outs-are, lines-few _ (known .ok), outputs-few _ (known .ok))
 
-add-count : tie.Need-add-count Inv-loop μ-loop
-add-count c = omega (arith, few (c .before .before .before))
+add-end : tie.Need-add-end Inv-loop μ-loop
+add-end c = omega (arith, few (c .before .before .before))
 
 loop-holds : tie.Need-loop-holds Inv-loop μ-loop
 unfolding statements
@@ -95,4 +95,4 @@ returns c = rw (all c) (c .before .loop .inv .2)
 pub put-text-spec : {M : Type 1} → statement M
 put-text-spec =
     tie.close
-    (tie.spec Inv-loop μ-loop add-count loop-holds add-statement-requires add-j (λ c. search needs) loop-again same-length returns)
+    (tie.spec Inv-loop μ-loop add-end loop-holds add-statement-requires add-j (λ c. search needs) loop-again same-length returns)
