@@ -2,7 +2,7 @@
 """Says whether docs/PROMISES.md and the sources agree on the public calls and on what is inner.
 
 Every `pub fn` of a library is accounted for. It is a call, which has a row in the table of calls: then it has no `requires`, its `ensures`
-is `Owes` of its promise alone (or Show's `ShowOwes`), the promise and the law that pins it stand where the row says, the front page lists it,
+is `Owes` of its promise alone (or Show's `ShowOwes`; Read's goes by what its text is), the promise and the law that pins it stand where the row says, the front page lists it,
 and the row names at least two must-fail edits of its crate, one of them in its own src/lib.rt. Or it is exported: then it has no
 `requires` and ensures `Exported` alone. Or it is inner: then it stands under a module path that PROMISES.md names as inner. A module that
 no other crate uses is private.
@@ -18,6 +18,8 @@ CRATES = ROOT / "crates"
 FUNCTION = re.compile(r'^pub (extern "C" )?fn (\w+)(.*?)(?:^\{|(?<=[\w\])>]) \{$)', re.M | re.S)
 ROW = re.compile(r"^\| \*\*(.+?)\*\* \|(.*)\|$", re.M)
 INNER = re.compile(r"^- inner: (.*)$", re.M)
+# a contract's promise: of a call on a drawing's text it goes by what that text is
+ENSURED = re.compile(r"ensures \{ λ \w+\. ⌜ (?:ByReading \(now \(\w+ \.entry\)\) \(λ is\. )?(\w+)(?: \((\w+))?")
 
 
 def libraries():
@@ -37,7 +39,7 @@ def public_functions():
 
 def ensured(header):
     """What a contract ensures: the word, and where it is Owes or Exported the promise."""
-    return re.findall(r"ensures \{ λ \w+\. ⌜ (\w+)(?: \((\w+))?", header)
+    return ENSURED.findall(header)
 
 
 def call_faults(path, name, header, cells, front):
