@@ -1,8 +1,8 @@
 #!/usr/bin/env python3
 """The filters `read` and `write`: drawings to their images and back, byte for byte; what they refuse, with exit status and both streams.
 
-    tests/drawings.py                          the product's filters
-    tests/drawings.py --product PROGRAM ...    another program in the launcher's place; 'read' or 'write' is its last word
+    tests/filters.py                          the product's filters
+    tests/filters.py --product PROGRAM ...    another program in the launcher's place; 'read' or 'write' is its last word
 
 Its last line is 'N passed, M failed'.
 """
