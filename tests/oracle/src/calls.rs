@@ -1,6 +1,7 @@
 //! What the bench can ask: each call with its refusals, in the order they are tested.
 
 use crate::board::{self, Fault};
+use crate::drawing;
 use crate::image::{self, Board, Record, Refusal, RECORD};
 
 /// The entry that says no pattern shows the fault.
@@ -176,4 +177,21 @@ pub fn five(image: &[u8], named: u64, values: u64, fault: Fault, row: &mut [u8])
     refuse_when(row.len() != board.lines(), 9)?;
     row.copy_from_slice(&board::five_row(&board, named, values, fault));
     Ok(board::drives(&board, row))
+}
+
+// Gives the bytes in front of the target, whose rest keeps its own, and their length; or refusal 14.
+fn put_in_front(bytes: &[u8], target: &mut [u8]) -> Result<usize, Refusal> {
+    refuse_when(target.len() < bytes.len(), 14)?;
+    target[..bytes.len()].copy_from_slice(bytes);
+    Ok(bytes.len())
+}
+
+// Gives the image of the board that a drawing names in the target, and its length.
+pub fn read(text: &[u8], target: &mut [u8]) -> Result<usize, Refusal> {
+    put_in_front(&drawing::image_of(text)?, target)
+}
+
+// Gives the drawing of an image's board in the target, and its length.
+pub fn write(image: &[u8], target: &mut [u8]) -> Result<usize, Refusal> {
+    put_in_front(&drawing::text_of(image)?, target)
 }

@@ -2,6 +2,7 @@
 
 use crate::board::Fault;
 use crate::calls;
+use crate::drawing;
 use crate::image::{Refusal, RECORD};
 use crate::text::counts_text;
 use std::ffi::OsStr;
@@ -19,9 +20,16 @@ pub const MOST_ROW: usize = 8_192;
 pub const MOST_BOOK: usize = 16_384;
 /// The longest pin book the console lends.
 pub const MOST_PINS: usize = 65_536;
+/// The longest target the console lends.
+pub const MOST_TARGET: usize = 262_144;
+/// The longest drawing the console takes as HEX.
+pub const MOST_READ: usize = 65_536;
+/// The longest drawing the console takes from a file.
+pub const MOST_IMPORTED: usize = 1_048_576;
 
 const HELP: &str =
-    "help: load open save image lend put check rows judge find book alter refresh five show entries pin help";
+    "help: load open save image lend put check rows judge find book alter refresh five show entries pin \
+    target read write import export help";
 
 /// The reason given after a question mark.
 type Reason = &'static str;
@@ -39,6 +47,7 @@ pub struct Console {
     faulty: Vec<u8>,
     book: Vec<u32>,
     pins: Vec<u32>,
+    target: Vec<u8>,
 }
 
 // Gives the number a word stands for: decimal digits only, and it fits 64 bits.
@@ -127,12 +136,20 @@ fn numbers(book: &[u32]) -> String {
     book.iter().map(|entry| format!(" {entry}")).collect()
 }
 
-// Gives the file's bytes; none where there are more of them than the console takes.
-fn file_bytes(path: &[u8]) -> io::Result<Option<Vec<u8>>> {
+// Gives the file's bytes; none where there are more of them than the limit.
+fn file_bytes(path: &[u8], limit: usize) -> io::Result<Option<Vec<u8>>> {
     let mut bytes = Vec::new();
     let file = File::open(OsStr::from_bytes(path))?;
-    file.take(MOST_LOADED as u64 + 1).read_to_end(&mut bytes)?;
-    Ok(if bytes.len() > MOST_LOADED { None } else { Some(bytes) })
+    file.take(limit as u64 + 1).read_to_end(&mut bytes)?;
+    Ok(if bytes.len() > limit { None } else { Some(bytes) })
+}
+
+// Gives `saved` after writing the bytes to a file.
+fn saved(path: &[u8], bytes: &[u8]) -> Answer {
+    match std::fs::write(OsStr::from_bytes(path), bytes) {
+        Ok(()) => Ok("saved".to_string()),
+        Err(_) => Err("cannot write"),
+    }
 }
 
 // Gives how many entries were found, of how many, or the refusal's one line.
@@ -167,11 +184,14 @@ impl Console {
         match words {
             [b"load", hex] => self.load(bytes(hex, MOST_LOADED)?),
             [b"open", path] => self.open(path),
-            [b"save", path] => self.save(path),
+            [b"save", path] => saved(path, &self.image),
+            [b"import", path] => self.import(path),
+            [b"export", path] => self.export(path),
             [b"image"] => Ok(format!("image {}", hex(&self.image))),
             [b"lend", b"rows", good, faulty] => self.lend_rows(good, faulty),
             [b"lend", b"book", count] => self.lend_book(count),
             [b"lend", b"pins", count] => self.lend_pins(count),
+            [b"lend", b"target", count] => self.lend_target(count),
             [b"put", b"good", hex] => self.put_good(hex),
             [b"put", b"faulty", hex] => self.put_faulty(hex),
             [b"put", b"entry", place, value] => put_number(&mut self.book, place, value),
@@ -180,6 +200,7 @@ impl Console {
             [b"show", b"faulty", from] => Ok(format!("row {}", hex(calls::show(&self.faulty, number(from)?)))),
             [b"entries"] => Ok(format!("entries{}", numbers(&self.book))),
             [b"pin", b"entries"] => Ok(format!("pins{}", numbers(&self.pins))),
+            [b"target"] => Ok(format!("target {}", hex(&self.target))),
             [b"help"] => Ok(HELP.to_string()),
             _ => self.call(words),
         }
@@ -197,6 +218,8 @@ impl Console {
             [b"alter", line, hex] => self.alter(line, hex),
             [b"refresh", line, pattern] => self.refresh(line, pattern),
             [b"five", named, values, fault] => self.five(named, values, fault),
+            [b"read", hex] => self.read(hex),
+            [b"write"] => self.write(),
             _ => Err(NO_COMMAND),
         }
     }
@@ -214,17 +237,28 @@ impl Console {
 
     // Gives Check's answer for the image in a file.
     fn open(&mut self, path: &[u8]) -> Answer {
-        match file_bytes(path) {
+        match file_bytes(path, MOST_LOADED) {
             Ok(Some(image)) => self.load(image),
             _ => Err("cannot read"),
         }
     }
 
-    // Gives `saved` after writing the image to a file.
-    fn save(&self, path: &[u8]) -> Answer {
-        match std::fs::write(OsStr::from_bytes(path), &self.image) {
-            Ok(()) => Ok("saved".to_string()),
-            Err(_) => Err("cannot write"),
+    // Gives Check's answer for the board that the drawing in a file names, or the reader's refusal.
+    fn import(&mut self, path: &[u8]) -> Answer {
+        match file_bytes(path, MOST_IMPORTED) {
+            Ok(Some(text)) => match drawing::image_of(&text) {
+                Ok(image) => self.load(image),
+                Err(refusal) => Ok(refusal.to_string()),
+            },
+            _ => Err("cannot read"),
+        }
+    }
+
+    // Gives `saved` after writing the image's drawing to a file, or the writer's refusal.
+    fn export(&self, path: &[u8]) -> Answer {
+        match drawing::text_of(&self.image) {
+            Ok(text) => saved(path, &text),
+            Err(refusal) => Ok(refusal.to_string()),
         }
     }
 
@@ -245,6 +279,12 @@ impl Console {
     // Gives `lent` after lending a pin book of this length.
     fn lend_pins(&mut self, count: &[u8]) -> Answer {
         self.pins = vec![99; length(count, MOST_PINS)?];
+        Ok("lent".to_string())
+    }
+
+    // Gives `lent` after lending a target of this length.
+    fn lend_target(&mut self, count: &[u8]) -> Answer {
+        self.target = vec![9; length(count, MOST_TARGET)?];
         Ok("lent".to_string())
     }
 
@@ -314,6 +354,17 @@ impl Console {
         let (named, values) = (number(named)?, number(values)?);
         let outcome = calls::five(&self.image, named, values, fault(word)?, &mut self.good);
         said(outcome, |count| format!("drives {count}"))
+    }
+
+    // Gives the answer of the reader, into the lent target.
+    fn read(&mut self, hex: &[u8]) -> Answer {
+        let text = bytes(hex, MOST_READ)?;
+        said(calls::read(&text, &mut self.target), |length| format!("read {length}"))
+    }
+
+    // Gives the answer of the writer, into the lent target.
+    fn write(&mut self) -> Answer {
+        said(calls::write(&self.image, &mut self.target), |length| format!("wrote {length}"))
     }
 }
 

@@ -19,12 +19,13 @@ pub const MOST_NOTE: usize = 256;
 /// The length of the longest good image in bytes.
 pub const MOST_IMAGE: usize = MOST_NOTE + RECORD * MOST_LINES + 2 * MOST_OUTPUTS + TRAILER;
 
-/// A call's "no": a plain number, or 4 with line and field, or 5 with the place in the output list.
+/// A call's "no": a plain number, or 4 with line and field, 5 with the place in the output list, 13 with a length.
 #[derive(Clone, Copy, Debug, PartialEq, Eq)]
 pub enum Refusal {
     Plain(u8),
     BadRecord { line: usize, field: usize },
     BadOutput { place: usize },
+    Departure { length: usize },
 }
 
 impl fmt::Display for Refusal {
@@ -34,6 +35,7 @@ impl fmt::Display for Refusal {
             Refusal::Plain(number) => write!(out, "refused {number}"),
             Refusal::BadRecord { line, field } => write!(out, "refused 4 at {line}.{field}"),
             Refusal::BadOutput { place } => write!(out, "refused 5 at {place}"),
+            Refusal::Departure { length } => write!(out, "refused 13 at {length}"),
         }
     }
 }
@@ -101,6 +103,14 @@ fn number32(bytes: &[u8]) -> usize {
     u32::from_le_bytes([bytes[0], bytes[1], bytes[2], bytes[3]]) as usize
 }
 
+// Gives refusal 2 when a line or output count is outside its limits.
+pub fn counts_allowed(lines: usize, outputs: usize) -> Result<(), Refusal> {
+    if !(1..=MOST_LINES).contains(&lines) || !(1..=MOST_OUTPUTS).contains(&outputs) {
+        return Err(Refusal::Plain(2));
+    }
+    Ok(())
+}
+
 // Gives the image's trailer, or refusal 1, 2 or 3.
 fn trailer(image: &[u8]) -> Result<Trailer, Refusal> {
     let length = image.len();
@@ -111,9 +121,7 @@ fn trailer(image: &[u8]) -> Result<Trailer, Refusal> {
     let lines = number16(&bytes[0..2]);
     let outputs = number16(&bytes[2..4]);
     let distance = number32(&bytes[4..8]);
-    if !(1..=MOST_LINES).contains(&lines) || !(1..=MOST_OUTPUTS).contains(&outputs) {
-        return Err(Refusal::Plain(2));
-    }
+    counts_allowed(lines, outputs)?;
     let right = TRAILER + 2 * outputs + RECORD * lines;
     if distance != right || distance > length || length - distance > MOST_NOTE {
         return Err(Refusal::Plain(3));

@@ -3,6 +3,7 @@
 mod board;
 mod calls;
 mod console;
+mod drawing;
 mod image;
 mod text;
 

@@ -1,6 +1,7 @@
 //! Tests, and the boards they use.
 
 mod console;
+mod drawing;
 mod exhaustion;
 mod pins;
 mod refusals;

@@ -24,6 +24,10 @@ const MALFORMED: &[&str] = &[
     "five 0 0 2.0.0/1", "pin", "pins", "pin 0", "pin book 24", "pin entries 0", "Pin book", "pin  book", "pinbook",
     "pin book ", "lend pins", "lend pins x", "lend pins 65537", "lend pins 1 1", "lend pin 1", "put pin", "put pin 0",
     "put pin 24 1", "put pin 0 4294967296", "put pin 0 -1", "put pins 0 1", "put pin 18446744073709551615 1",
+    "target 0", "target ", "targets", "lend target", "lend target x", "lend target 262145", "lend target 1 1",
+    "lend targets 1", "read", "read ", "read 0", "read 0g", "read - -", "read x", "write 1", "write ", "Write",
+    "import", "import ", "import a b", "import /", "import /nonexistent/drawing", "export", "export ", "export a b", "export /",
+    "export /nonexistent/drawing",
 ];
 
 // Gives the HEX word of some bytes, lower case.
@@ -247,7 +251,7 @@ fn malformed() {
     for line in MALFORMED {
         check_all(&mut console, &[(line, "?"), ("image", &image), ("show good 0", "row 090909")]);
         check_all(&mut console, &[("show faulty 0", "row 090909"), ("entries", "entries 99 99 99 99 99 99")]);
-        check_all(&mut console, &[("pin entries", &pins)]);
+        check_all(&mut console, &[("pin entries", &pins), ("target", "target -")]);
     }
     assert!(console.answer(b"find \xFF/0").starts_with("? "));
 }
