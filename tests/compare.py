@@ -5,13 +5,15 @@
     tests/compare.py --seed 7 --commands 2000000      millions of commands, from another seed
 
 It prints how often each answer and each refusal of each command arose, of accepted alterations each sort of board, altered line and
-touched line, and of exclusive-ors of three and four pins each call with a fault there, x on each pin by itself and three pins at 1. It
-fails where one of these arose fewer than 20 times. Its last line is 'N passed, M failed', where a part of a script counts one.
+touched line, of exclusive-ors of three and four pins each call with a fault there, x on each pin by itself and three pins at 1, and of
+drawings where in a statement they departed from the form. It fails where one of these arose fewer than 20 times. Its last line is
+'N passed, M failed', where a part of a script counts one.
 """
 import argparse
 import collections
 import concurrent.futures
 import functools
+import re
 import select
 import shutil
 import subprocess
@@ -19,6 +21,7 @@ import sys
 import tempfile
 from pathlib import Path
 
+import drawings
 import programs
 import scripts
 import shapes
@@ -30,13 +33,29 @@ FAILURES = ROOT / "target/compare"
 SCRIPT, ENOUGH, ENOUGH_FROM = 5_000, 20, 20_000
 TIMEOUT = 900
 PAIRED = (b"lend", b"put", b"show", b"pin")
-COMMANDS = "load open save image lend put check rows judge find book alter refresh five show entries pin help".split()
+COMMANDS = ("load open save image lend put check rows judge find book alter refresh five show entries pin target read write import export "
+            "help").split()
 # commands whose last word is a fault; one on a pin has its own rows in the table
 WITH_FAULT = (b"rows", b"judge", b"find", b"five")
 ON_FAULT = [word.decode() + pin for word in WITH_FAULT for pin in ("", " pin")]
 # the table's rows of exclusive-ors, by their pins
 XORS = {n: f"xor of {n} pins" for n in (3, 4)}
 IMAGE = [str(n) for n in range(1, 6)]
+# where in the form a drawing departs from it, by what its last statement has begun with
+DEPARTURES = {
+    "before a statement": rb"",
+    "in INPUT": rb"I[INPUT(n]*",
+    "in an input's number": rb"INPUT\(n\d+",
+    "in OUTPUT": rb"O[UTP(n]*",
+    "in a gate's number": rb"n\d*",
+    "around =": rb"n\d+ (= ?)?",
+    "in a word": rb"n\d+ = [A-Z]+",
+    "before a pin": rb"n\d+ = .*(\(|, ?)",
+    "at a pin's number": rb"n\d+ = .*n",
+    "in or behind a pin's number": rb"n\d+ = .*\d",
+    "in or behind an output's number": rb"OUTPUT\(n\d+",
+    "behind a bracket": rb".*\)",
+}
 # what each command can answer: forms of an accepted answer, then the refusals of its call, then '?'
 CAN_ANSWER = {
     "load": ["board", *IMAGE, "?"],
@@ -67,6 +86,12 @@ CAN_ANSWER = {
     "show faulty": ["row", "row -", "?"],
     "entries": ["entries", "?"],
     "pin entries": ["pins", "?"],
+    "lend target": ["lent", "?"],
+    "target": ["target", "target -", "?"],
+    "read": ["read", "13", "2", "4", "5", "14", "?"],
+    "write": ["wrote", *IMAGE, "14", "?"],
+    "import": ["board", "13", "2", "4", "5", "? cannot read", "?"],
+    "export": ["saved", *IMAGE, "?"],
     "help": ["help", "?"],
     "no command": ["?", "? line too long"],
     "a bad record": [f"field {n}" for n in range(6)],
@@ -76,10 +101,11 @@ CAN_ANSWER = {
     "touched": ["by the first output only", "by the last only", "by the 64th only", "before only", "after only",
                 *(f"through pin {pin} only" for pin in range(4))],
     "a pattern": ["of the first word", "of the first block", "of a later block"],
+    "a departure": [*DEPARTURES, "at the end"],
     **{name: [*ON_FAULT, "three at 1", *(f"x on pin {pin} only" for pin in range(n))] for n, name in XORS.items()},
 }
 # rows of the table that say more of an answer that another row has counted
-CLOSER = ("a bad record", "alter's 9", "altered board", "altered line", "touched", "a pattern", *XORS.values())
+CLOSER = ("a bad record", "alter's 9", "altered board", "altered line", "touched", "a pattern", "a departure", *XORS.values())
 FIXED = (b"? line too long", b"? cannot read")
 
 
@@ -127,7 +153,8 @@ def scratch(folder):
     """A folder with the files that scripts open."""
     folder.mkdir()
     (folder / "folder").mkdir()
-    for name, data in (("good.img", make.S), ("empty", b""), ("full", bytes(65_536)), ("large", bytes(65_537)), ("huge", bytes(300_000))):
+    images = {"good.img": make.S, "empty": b"", "full": bytes(65_536), "large": bytes(65_537), "huge": bytes(300_000)}
+    for name, data in (images | drawings.files()).items():
         (folder / name).write_bytes(data)
     return folder
 
@@ -199,7 +226,8 @@ def lent_after(lent, command, answer):
     """The line count and the lengths of both lent books after a command, from those before it."""
     lines, book, pins = lent
     words = answer[:40].split(b" ")
-    if command.startswith((b"load ", b"open ")) and words[0] in (b"board", b"refused"):
+    taken = words[0] == b"board" and command.startswith(b"import ")
+    if taken or words[0] in (b"board", b"refused") and command.startswith((b"load ", b"open ")):
         lines = int(words[1]) if words[0] == b"board" else 0
         return lines, 2 * lines, 8 * lines
     if answer == b"lent" and command.startswith(b"lend book "):
@@ -216,6 +244,8 @@ def wrong_books(lines, book, pins):
 
 def image_after(image, command, answer):
     """The kept image after a command other than an alteration, from that before it; nothing where it came from a file."""
+    if command.startswith(b"import ") and answer.startswith(b"board "):
+        return None
     if answer.startswith(b"? ") or not command.startswith((b"load ", b"open ")):
         return image
     return bytes.fromhex(command[5:].decode().replace("-", "")) if command.startswith(b"load ") else None
@@ -277,6 +307,14 @@ def of_pattern(pattern):
     return "of the first word" if pattern < 64 else "of the first block" if pattern < 512 else "of a later block"
 
 
+def of_departure(text, length):
+    """What the table counts of a drawing that is refused by 13 at a length: where in its last statement it departs."""
+    if length == len(text):
+        return "at the end"
+    begun = text[:length].rsplit(b"\n", 1)[-1]
+    return next(name for name, form in DEPARTURES.items() if re.fullmatch(form, begun))
+
+
 def counted(commands, answered):
     """How often each form of answer of each command arose."""
     counts, lent, image, filled = collections.Counter(), (0, 0, 0), None, False
@@ -288,6 +326,8 @@ def counted(commands, answered):
             counts["a bad record", "field " + answer.decode().rsplit(".", 1)[1]] += 1
         if name.startswith("find") and answer.isdigit():
             counts["a pattern", of_pattern(int(answer))] += 1
+        if name == "read" and answer.startswith(b"refused 13 at "):
+            counts["a departure", of_departure(bytes.fromhex(command[5:].decode()), int(answer[14:]))] += 1
         if (name, answer) == ("alter", b"refused 9"):
             counts["alter's 9", wrong_books(*lent)] += 1
         image = image_after(image, command, answer)
@@ -306,7 +346,7 @@ def counted(commands, answered):
 
 def table(counts):
     """The table of counts: accepted answers by form, each refusal, and '?'."""
-    numbers = [str(n) for n in range(1, 13)]
+    numbers = [str(n) for n in range(1, 15)]
     rows = [["command", *numbers, "?", "accepted"]]
     for name in CAN_ANSWER:
         forms = {f: n for (c, f), n in sorted(counts.items()) if c == name}

@@ -7,6 +7,7 @@ import functools
 import itertools
 import random
 
+import drawings
 import shapes
 from shapes import make
 
@@ -118,6 +119,16 @@ class Script:
         """Five values, and the good row after it."""
         self.say("five", named, values, self.fault(line, stuck, pin))
         self.look("show good 0")
+
+    def read(self, text):
+        """The reader, and the target after it."""
+        self.say("read", text)
+        self.look("target")
+
+    def write(self):
+        """The writer, and the target after it."""
+        self.say("write")
+        self.look("target")
 
     # arguments, good and bad
 
@@ -241,10 +252,11 @@ def before_load(s):
     s.board = shapes.sheet(s.rng)
     for command in ("image", "check", "entries", "pin entries", "show good 0", "show faulty 5", "book", "pin book", "find 0/0",
                     "find 0.0/0", "rows 0 0/0", "judge 0 0.0/0", "refresh 0 0", "five 0 0 0/0", "alter 0 02010000000000000000",
-                    "put entry 0 1", "put pin 0 1", "help"):
+                    "put entry 0 1", "put pin 0 1", "write", "read " + drawings.drawing(s.board).hex(), "read -", "lend target 40", "write",
+                    "import board.txt", "target", "help"):
         if s.rng.random() < 0.8:
             s.say(command)
-            s.look(s.rng.choice(LOOKS).decode())
+            s.look(s.rng.choice((*LOOKS, b"target")).decode())
 
 
 def exhaustive(s):
@@ -385,7 +397,8 @@ def every_call(s):
         s.judge(pattern, line, stuck, pin)
         s.find(line, stuck, pin)
         s.five(*partial, line, stuck, pin)
-    for call in (s.book, s.pin_book, lambda: s.alter(line, a_record(s, line)), lambda: s.refresh(line, pattern)):
+    s.say("lend target", s.rng.choice((0, 400)))
+    for call in (s.book, s.pin_book, lambda: s.alter(line, a_record(s, line)), lambda: s.refresh(line, pattern), s.write):
         call()
 
 
@@ -574,7 +587,7 @@ WORDS = ("", "-", "x", "-1", "+1", "0x10", "1.5", "1e3", "18446744073709551616",
          "4.", ".0/1", "4./1", "4.0", "4.0/", "4.0.1/1", "4..0/1", "4.+0/1", "4.-0/1", "4.18446744073709551616/1",
          "4.0/18446744073709551616", "99999999999999999999.0/1", "4 .0/1", "4/.0/1", "4/0.1", " 4/0", "4/+0", "4/-0",
          "4/18446744073709551616", "99999999999999999999/0", "\t", "4\t", "\r", "4/0\r", "4.0/1\r", "all", "book", "pin", "pins")
-FILE_WORDS = ("open", "save")
+FILE_WORDS = ("open", "save", "import", "export")
 
 
 def valid_commands(s):
@@ -585,7 +598,8 @@ def valid_commands(s):
     return ["load " + s.board.image().hex(), "load -", "image", "check", "entries", "help", "book", *["pin book", "pin entries"] * 2,
             "lend rows 3 4", "lend book 6", "lend pins 24", "put good 0001", "put faulty -", f"put entry {line} 5", f"put pin {line} 5",
             *calls, f"alter {line} {shapes.packed(shapes.gate(s.rng, 0, line + 1)).hex()}", f"refresh {line} {s.pattern()}",
-            f"show good {line}", f"show faulty {line}", "open good.img", "save own.img"]
+            f"show good {line}", f"show faulty {line}", "open good.img", "save own.img", "lend target 60", "target",
+            "read " + drawings.drawing(s.board).hex(), "write", "import board.txt", "export own.txt"]
 
 
 def respaced(rng, text):
@@ -625,12 +639,14 @@ def malformed(s):
     """Lines that are no command, each with a look at something that must not have changed."""
     s.load(shapes.small(s.rng))
     s.rows(s.pattern(), *s.any_fault())
+    s.say("lend target", s.rng.choice((0, 60, 400)))
+    s.write()
     for text in valid_commands(s):
         s.commands.append(malformed_command(s.rng, text))
-        s.look(s.rng.choice(LOOKS).decode())
+        s.look(s.rng.choice((*LOOKS, b"target")).decode())
     for _ in range(5):
         s.commands.append(no_command(s.rng))
-        s.look(s.rng.choice(LOOKS).decode())
+        s.look(s.rng.choice((*LOOKS, b"target")).decode())
     s.say("help")
 
 
@@ -670,6 +686,7 @@ def long_lines(s):
 PATHS = ("good.img", "empty", "full", "large", "huge", "folder", "folder/", "missing", "missing/a.img", ".", "/", "/dev/null",
          "/dev/zero", "n" * 300, "n/" * 2600, "good.img\0x", "good.img/", "h\u00e9.img", "")
 SAVED = ("a.img", "a.img", "folder/b.img", "./c.img", "h\u00e9.img")
+EXPORTED = ("a.txt", "folder/b.txt", "./c.txt", "h\u00e9.txt")
 NOT_SAVED = ("folder", "folder/", "missing/a.img", "/", ".", "n" * 300, "n/" * 2600, "good.img/", "a\0b", "/dev/full", "")
 
 
@@ -690,12 +707,144 @@ def files(s):
         s.look("image", "show good 0", "pin entries")
 
 
+# drawings
+
+def read_and_write(s):
+    """Drawings of boards of every size, read and written: a target one byte short, just long enough, longer, and with the other in it."""
+    for _ in range(2):
+        s.load(drawings.any_board(s.rng))
+        text, length = drawings.drawing(s.board), len(s.board.image()) - len(s.board.note)
+        for right, call in ((length, lambda: s.read(text)), (len(text), s.write)):
+            for lent in (right - 1, right, right + s.rng.choice((1, 2, 300))):
+                s.say("lend target", lent)
+                call()
+        s.read(text)
+        s.look("image")
+
+
+def departures(s):
+    """Drawings that depart from the form in its signs, words and numbers, and with their statements rearranged; and a good one last."""
+    s.load(s.rng.choice((shapes.small, shapes.small, shapes.middle))(s.rng))
+    parts, text = drawings.statements(s.board), drawings.drawing(s.board)
+    s.say("lend target", s.rng.choice((5_300, len(s.board.image()), 0)))
+    for place, other in s.rng.sample(drawings.SPOILS, 18):
+        s.read(drawings.spoilt(s.rng, text, place, other))
+    for _ in range(6):
+        s.read(drawings.rearranged(s.rng, parts))
+    s.read(text)
+    s.look("image")
+
+
+def cut_drawing(s):
+    """A small drawing cut at every byte."""
+    s.load(shapes.sheet(s.rng))
+    s.say("lend target", 60)
+    text = drawings.tiny(s.rng)
+    for end in range(len(text) + 1):
+        s.say("read", text[:end])
+        if text[end - 1:end] == b"\n":
+            s.look("target")
+    s.look("target", "image")
+
+
+def changed_drawing(s):
+    """A small drawing with each byte left out, doubled or changed, or another put before it, one at a time."""
+    s.load(shapes.sheet(s.rng))
+    s.say("lend target", 80)
+    text = drawings.tiny(s.rng)
+    for at in range(len(text)):
+        s.say("read", drawings.changed(s.rng, text, at))
+        if s.rng.random() < 0.2:
+            s.look("target")
+    s.look("target", "image")
+
+
+def random_drawings(s):
+    """Random texts, of bytes and of pieces of statements."""
+    s.load(shapes.sheet(s.rng))
+    s.say("lend target", 100)
+    for _ in range(12):
+        s.read(drawings.random_text(s.rng))
+
+
+def boards_named(s):
+    """Boards named that break each of document 01's rules: alone, with a departure behind them, and with a target too short."""
+    s.load(shapes.small(s.rng))
+    for rule in s.rng.sample(drawings.RULES, 5):
+        text = drawings.drawing(rule(s.rng, s.board))
+        s.say("lend target", s.rng.choice((5_300, 100, len(s.board.image()))))
+        s.read(text)
+        s.read(s.rng.choice((text[:-1], text + b" ", text + b"\n", text + b"OUTPUT(n65536)\n", b"\n" + text)))
+        s.say("lend target", s.rng.choice((0, 1, 11, 43)))
+        s.read(text)
+
+
+def refused_drawings(s):
+    """The writer on images with a defect of each sort, into a target and to a file that must stay as it is; a target too short comes last."""
+    s.load(shapes.small(s.rng))
+    path = s.rng.choice(EXPORTED)
+    if s.rng.random() < 0.5:
+        s.say("export", path)
+    for defect in shapes.DEFECTS:
+        s.say("lend target", s.rng.choice((0, 30, 5_000)))
+        s.say("load", defect(s.rng, s.board))
+        s.write()
+        s.say("export", s.rng.choice((path, *NOT_SAVED)))
+    s.say("import", path)
+    s.look("image")
+
+
+def drawing_files(s):
+    """Drawings exported and imported again, their notes lost; refused ones, which change nothing; files that cannot be read or written."""
+    board, path = shapes.small(s.rng), s.rng.choice(EXPORTED)
+    s.load(board)
+    s.say("lend target", 50)
+    s.say("export", path)
+    s.say("load", s.rng.choice((make.T, make.H, b"", make.T + bytes(900))))
+    s.say("import", path)
+    s.look("image", "show good 0", "entries", "pin entries")
+    texts = [drawings.drawing(rule(s.rng, board)) for rule in drawings.FEW_RULES]
+    for text in (*texts, drawings.random_text(s.rng), drawings.changed(s.rng, drawings.drawing(board), 0)):
+        s.say("load", text)
+        s.say("save", path)
+        s.load(board)
+        s.say("import", path)
+        s.look(s.rng.choice(LOOKS).decode(), "image")
+    s.say("export", s.rng.choice((*EXPORTED, *NOT_SAVED)))
+    for other in (path, s.rng.choice(PATHS)):
+        s.say("import", other)
+        s.look("target", s.rng.choice(LOOKS).decode())
+
+
+def drawing_lengths(s):
+    """The console's own limits for drawings at the boundary: the target's length and the bytes read."""
+    s.load(shapes.sheet(s.rng))
+    s.say("lend target", s.rng.choice((262_145, 262_145, 2**32, TOP, 262_143)))
+    s.say("read", drawings.exactly(s.rng.choice((65_536, 65_537))))
+    if s.rng.random() < 0.2:
+        s.say("lend target", 262_144)
+        s.write()
+    s.say("lend target", 0)
+    s.read(drawings.drawing(s.board))
+    s.read(b"")
+    s.write()
+
+
+def large_drawings(s):
+    """Drawings of 512 lines, of 65,537 inputs, lines and outputs, and of up to 1,048,576 bytes and one more, from files."""
+    s.load(shapes.small(s.rng))
+    for path in s.rng.sample(drawings.LARGE, 2):
+        s.say("import", path)
+        s.look("check", "image")
+
+
 # the parts that every script begins and ends with, and each sort of part between them and how often it comes
-FIRST, LAST = (before_load, gate_tables), (exclusive_ors,) + (few_shared,) * 3
+FIRST, LAST = (before_load, gate_tables), (exclusive_ors,) + (few_shared,) * 3 + (refused_drawings, drawing_files, large_drawings)
 PARTS = {
     exhaustive: 6, every_row: 6, largest: 2, many_inputs: 3, refusals: 8, every_refusal: 5, every_absent_pin: 4, every_book_length: 4,
     bad_image: 4, bad_boards: 5, damaged_image: 5, random_image: 3, alterations: 10, bench_sheet: 2, refreshes: 5, five_values: 5,
-    malformed: 8, lengths: 4, long_lines: 3, files: 5,
+    malformed: 8, lengths: 4, long_lines: 3, files: 5, read_and_write: 3, departures: 4, cut_drawing: 1, changed_drawing: 2, random_drawings: 2,
+    boards_named: 3, refused_drawings: 3, drawing_files: 2, drawing_lengths: 2,
 }
 
 
