@@ -6,11 +6,12 @@ import shapes
 from shapes import make
 
 WORDS = ("BUFF", "NOT", "AND", "NAND", "OR", "NOR", "XOR", "XNOR")
-# what a number of an output or a pin, a gate word, its brackets and a gate's equals sign look like in a drawing
-NUMBER, WORD, BRACKETS, EQUALS = rb"(?<=T\(n)\d+|(?<=, n)\d+", rb"(?<= = )[A-Z]+", rb"(?<=[A-Z])\(.*\)", rb" = "
+# what an input's number, that of an output or a pin, a gate word and its brackets look like in a drawing
+OWN, NUMBER = rb"(?<=INPUT\(n)\d+", rb"((?<=TPUT\(n)|(?<=NOT\(n)|(?<=[FDR]\(n)|(?<=, n))\d+"
+WORD, BRACKETS = rb"(?<= = )[A-Z]+", rb"(?<=[A-Z])\(.*\)"
 # what a place of a drawing looks like, and what it must not be, or may only just be
 SPOILS = (
-    *((EQUALS, other) for other in (b"= ", b" =", b"=", b"  = ", b" =  ", b" == ", b"\t=\t", b" ", b" := ")),
+    *((rb" = ", other) for other in (b"= ", b" =", b"=", b"  = ", b" =  ", b" == ", b"\t=\t", b" ", b" := ")),
     *((rb", ", other) for other in (b",", b",  ", b" , ", b" ", b", , ", b",\n", b"; ", b",\t")),
     *((rb"\n", other) for other in (b"\r\n", b" \n", b"\n\n", b"", b"\n ", b";\n", b"\r", b"\0\n", b" # n\n", b"\n# n\n", b"\t\n")),
     *((rb"\n\Z", other) for other in (b"", b" ", b"\n ", b"\n\n", b"\n\0", b"\r\n")),
@@ -18,6 +19,7 @@ SPOILS = (
     *((rb"\)", other) for other in (b"))", b" )", b"", b"]", b",)", b", )", b"\n")),
     *((rb"n(?=\d)", other) for other in (b"N", b"", b"nn", b"n0", b"n00", b"n ", b"n-", b"n+", b"m", b"n0x", b"x1")),
     *((rb"\d+", other) for other in (b"", b"65535", b"65536", b"00", b"1a", b"1 ")),
+    *((OWN, other) for other in (b"00", b"01", b"0 ", b"1", b"10", b"65536", b"")),
     *((NUMBER, other) for other in (b"", b"0", b"65535", b"65535", b"65536", b"65536", b"65540", b"66000", b"70000", b"99999", b"100000",
                                     b"655350", b"131072", b"4294967296", b"18446744073709551616", b"065535", b"00", b"01", b"6.5")),
     *((WORD, other) for other in (b"", b"BUF", b"BUFFER", b"NO", b"NOTE", b"AN", b"ANDY", b"NA", b"NANDNAND", b"O", b"ORR", b"NORR", b"X", b"XN",
