@@ -168,12 +168,12 @@ fn said<T>(outcome: Result<T, Refusal>, text: impl Fn(T) -> String) -> Answer {
 impl Console {
     // Gives the answer to one command line (without its line feed).
     pub fn answer(&mut self, line: &[u8]) -> String {
+        let words: Vec<&[u8]> = line.split(|&byte| byte == b' ').collect();
         let answer = if line.is_empty() {
             Err("empty line")
-        } else if line.iter().any(|&byte| byte == b'\t' || byte == b'\r') {
+        } else if line.contains(&b'\t') || line.contains(&b'\r') || words.contains(&&b""[..]) {
             Err(UNREAD)
         } else {
-            let words: Vec<&[u8]> = line.split(|&byte| byte == b' ').collect();
             self.command(&words)
         };
         answer.unwrap_or_else(|reason| format!("? {reason}"))
