@@ -12,11 +12,12 @@ use Rattle.words.specs.Forms.{wordFit, formFit, firstForm}
 use Rattle.words.specs.Command.{table, commandOf}
 use Rattle.words.specs.declared.command.Why.the-variants.{Empty, Unknown, Words, Number, Fault as NoFault, Hex, Path}
 use Rattle.words.specs.declared.command.Command.{Command}
-use Rattle.words.specs.declared.command.Command.the-variants.{Anew, OnImage, OnRows, OnBook, Alter, Unread}
-use Rattle.words.specs.declared.command.Anew.the-variants.{Load, Open}
-use Rattle.words.specs.declared.command.OnImage.the-variants.{Find}
+use Rattle.words.specs.declared.command.Command.the-variants.{Anew, OnImage, OnRows, OnBook, OnTarget, Alter, Unread}
+use Rattle.words.specs.declared.command.Anew.the-variants.{Load, Open, Import}
+use Rattle.words.specs.declared.command.OnImage.the-variants.{Export, Find}
 use Rattle.words.specs.declared.command.OnRows.the-variants.{Lend, Rows, Five}
 use Rattle.words.specs.declared.command.OnBook.the-variants.{Put, Book, Entries}
+use Rattle.words.specs.declared.command.OnTarget.the-variants.{Lend as LendTarget, Target, Read, Write}
 
 abbrev asks : String → Command
 asks line = commandOf (text line)
@@ -36,8 +37,14 @@ read :
     × (asks "load -" ≡ Anew (Load 5))
     × (asks "alter 3 0aF1" ≡ Alter 3 8)
     × (asks "open a/b" ≡ Anew (Open 5))
+    × (asks "import a/b" ≡ Anew (Import 7))
+    × (asks "export a" ≡ OnImage (Export 7))
+    × (asks "lend target 262144" ≡ OnTarget (LendTarget 262_144))
+    × (asks "target" ≡ OnTarget Target)
+    × (asks "read 4e4F" ≡ OnTarget (Read 5))
+    × (asks "write" ≡ OnTarget Write)
 unfolding table firstForm formFit wordFit parts last same every valueFrom numberOf
-read = (refl, refl, refl, refl, refl, refl, refl, refl, refl, refl, refl, refl, refl)
+read = (refl, refl, refl, refl, refl, refl, refl, refl, refl, refl, refl, refl, refl, refl, refl, refl, refl, refl, refl)
 
 -- and the next is not; nor is a word where a space stands too many
 unread :
@@ -57,12 +64,15 @@ unread :
     × (asks "find 4/0.1" ≡ Unread NoFault)
     × (asks "pin" ≡ Unread Unknown)
     × (asks "load abc" ≡ Unread Hex)
+    × (asks "read" ≡ Unread Words)
+    × (asks "write -" ≡ Unread Words)
+    × (asks "lend" ≡ Unread Unknown)
     × (asks "open a\tb" ≡ Unread Path)
     × (asks "find" ≡ Unread Words)
     × (asks "put" ≡ Unread Unknown)
     × (asks "Book" ≡ Unread Unknown)
 unfolding table firstForm formFit wordFit parts last same every valueFrom numberOf
-unread = (refl, refl, refl, refl, refl, refl, refl, refl, refl, refl, refl, refl, refl, refl, refl, refl, refl, refl, refl, refl)
+unread = (refl, refl, refl, refl, refl, refl, refl, refl, refl, refl, refl, refl, refl, refl, refl, refl, refl, refl, refl, refl, refl, refl, refl)
 
 -- each digit of HEX, and no bytes
 bytes :

@@ -14,11 +14,12 @@ use Rattle.words.specs.Forms.{firstForm}
 use Rattle.words.specs.declared.command.Why.the-variants.{Empty, Unknown}
 use Rattle.words.specs.declared.command.Values.{Values}
 use Rattle.words.specs.declared.command.Command.{Command}
-use Rattle.words.specs.declared.command.Command.the-variants.{Anew, OnImage, OnRows, OnBook, Alter, Help, Unread}
-use Rattle.words.specs.declared.command.Anew.the-variants.{Load, Open}
-use Rattle.words.specs.declared.command.OnImage.the-variants.{Save, Image, Check, Judge, Find}
+use Rattle.words.specs.declared.command.Command.the-variants.{Anew, OnImage, OnRows, OnBook, OnTarget, Alter, Help, Unread}
+use Rattle.words.specs.declared.command.Anew.the-variants.{Load, Open, Import}
+use Rattle.words.specs.declared.command.OnImage.the-variants.{Save, Export, Image, Check, Judge, Find}
 use Rattle.words.specs.declared.command.OnRows.the-variants.{Lend as LendRows, PutGood, PutFaulty, Rows, Refresh, Five, ShowGood, ShowFaulty}
 use Rattle.words.specs.declared.command.OnBook.the-variants.{Lend as LendBook, Put, Book, Entries}
+use Rattle.words.specs.declared.command.OnTarget.the-variants.{Lend as LendTarget, Target, Read, Write}
 use Rattle.words.specs.declared.forms.Form.{Form}
 use Rattle.words.specs.declared.forms.Form.the-variants.{At, None}
 
@@ -40,7 +41,9 @@ unfoldable pub table : Values → List Row
 table v =
     asked-by "load H" (Anew (Load (v .from)))
     ∷ asked-by "open P" (Anew (Open (v .from)))
+    ∷ asked-by "import P" (Anew (Import (v .from)))
     ∷ asked-by "save P" (OnImage (Save (v .from)))
+    ∷ asked-by "export P" (OnImage (Export (v .from)))
     ∷ asked-by "image" (OnImage Image)
     ∷ asked-by "check" (OnImage Check)
     ∷ asked-by "judge N F" (OnImage (Judge (v .one) (v .fault)))
@@ -61,6 +64,10 @@ table v =
     ∷ asked-by "put pin N N" (OnBook Pins (Put (v .two) (v .three)))
     ∷ asked-by "pin book" (OnBook Pins Book)
     ∷ asked-by "pin entries" (OnBook Pins Entries)
+    ∷ asked-by "lend target N" (OnTarget (LendTarget (v .two)))
+    ∷ asked-by "target" (OnTarget Target)
+    ∷ asked-by "read H" (OnTarget (Read (v .from)))
+    ∷ asked-by "write" (OnTarget Write)
     ∷ asked-by "alter N H" (Alter (v .one) (v .from))
     ∷ asked-by "help" Help
     ∷ []

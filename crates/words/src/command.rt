@@ -27,11 +27,13 @@ pub enum Why {
 pub enum Anew {
     Load { from: usize },
     Open { from: usize },
+    Import { from: usize },
 }
 
 // Those that use the image alone.
 pub enum OnImage {
     Save { from: usize },
+    Export { from: usize },
     Image,
     Check,
     Judge { pattern: u64, fault: Fault },
@@ -79,12 +81,21 @@ pub enum OnBook {
     Entries,
 }
 
+// Those that use the target.
+pub enum OnTarget {
+    Lend { bytes: u64 },
+    Target,
+    Read { from: usize },
+    Write,
+}
+
 // What a line asks for, or why it can't be read.
 pub enum Command {
     Anew(Anew),
     OnImage(OnImage),
     OnRows(OnRows),
     OnBook(Sort, OnBook),
+    OnTarget(OnTarget),
     Alter { line: u64, from: usize },
     Help,
     Unread(Why),
@@ -125,53 +136,55 @@ fn asked(form: usize, v: Values) -> Command
     match form {
         0 => Command::Anew(Anew::Load { from: v.from }),
         1 => Command::Anew(Anew::Open { from: v.from }),
-        2 => Command::OnImage(OnImage::Save { from: v.from }),
-        3 => Command::OnImage(OnImage::Image),
-        4 => Command::OnImage(OnImage::Check),
-        5 => Command::OnImage(OnImage::Judge {
+        2 => Command::Anew(Anew::Import { from: v.from }),
+        3 => Command::OnImage(OnImage::Save { from: v.from }),
+        4 => Command::OnImage(OnImage::Export { from: v.from }),
+        5 => Command::OnImage(OnImage::Image),
+        6 => Command::OnImage(OnImage::Check),
+        7 => Command::OnImage(OnImage::Judge {
             pattern: v.one,
             fault,
         }),
-        6 => Command::OnImage(OnImage::Find { fault }),
+        8 => Command::OnImage(OnImage::Find { fault }),
         _ => asked_on_rows(form, v),
     }
 }
 
 // The same for the commands on the rows.
 fn asked_on_rows(form: usize, v: Values) -> Command
-    requires { ⌜ 7 ≤ form ⌝ }
+    requires { ⌜ 9 ≤ form ⌝ }
     ensures { λ r. ⌜ r ≡ asksAt (table v) form ⌝ }
 {
     let fault = v.fault;
     match form {
-        7 => Command::OnRows(OnRows::Lend {
+        9 => Command::OnRows(OnRows::Lend {
             good: v.two,
             faulty: v.three,
         }),
-        8 => Command::OnRows(OnRows::PutGood { from: v.from }),
-        9 => Command::OnRows(OnRows::PutFaulty { from: v.from }),
-        10 => Command::OnRows(OnRows::Rows {
+        10 => Command::OnRows(OnRows::PutGood { from: v.from }),
+        11 => Command::OnRows(OnRows::PutFaulty { from: v.from }),
+        12 => Command::OnRows(OnRows::Rows {
             pattern: v.one,
             fault,
         }),
-        11 => Command::OnRows(OnRows::Refresh {
+        13 => Command::OnRows(OnRows::Refresh {
             line: v.one,
             pattern: v.two,
         }),
-        12 => Command::OnRows(OnRows::Five {
+        14 => Command::OnRows(OnRows::Five {
             named: v.one,
             values: v.two,
             fault,
         }),
-        13 => Command::OnRows(OnRows::ShowGood { start: v.two }),
-        14 => Command::OnRows(OnRows::ShowFaulty { start: v.two }),
+        15 => Command::OnRows(OnRows::ShowGood { start: v.two }),
+        16 => Command::OnRows(OnRows::ShowFaulty { start: v.two }),
         _ => asked_on_book(form, v),
     }
 }
 
-// The same for the commands on one book, for `alter` and for `help`.
+// The same for the commands on one book.
 fn asked_on_book(form: usize, v: Values) -> Command
-    requires { ⌜ 15 ≤ form ⌝ }
+    requires { ⌜ 17 ≤ form ⌝ }
     ensures { λ r. ⌜ r ≡ asksAt (table v) form ⌝ }
 {
     let lend = OnBook::Lend { numbers: v.two };
@@ -180,19 +193,33 @@ fn asked_on_book(form: usize, v: Values) -> Command
         number: v.three,
     };
     match form {
-        15 => Command::OnBook(Sort::Lines, lend),
-        16 => Command::OnBook(Sort::Lines, put),
-        17 => Command::OnBook(Sort::Lines, OnBook::Book),
-        18 => Command::OnBook(Sort::Lines, OnBook::Entries),
-        19 => Command::OnBook(Sort::Pins, lend),
-        20 => Command::OnBook(Sort::Pins, put),
-        21 => Command::OnBook(Sort::Pins, OnBook::Book),
-        22 => Command::OnBook(Sort::Pins, OnBook::Entries),
-        23 => Command::Alter {
+        17 => Command::OnBook(Sort::Lines, lend),
+        18 => Command::OnBook(Sort::Lines, put),
+        19 => Command::OnBook(Sort::Lines, OnBook::Book),
+        20 => Command::OnBook(Sort::Lines, OnBook::Entries),
+        21 => Command::OnBook(Sort::Pins, lend),
+        22 => Command::OnBook(Sort::Pins, put),
+        23 => Command::OnBook(Sort::Pins, OnBook::Book),
+        24 => Command::OnBook(Sort::Pins, OnBook::Entries),
+        _ => asked_on_target(form, v),
+    }
+}
+
+// The same for the commands on the target, for `alter` and for `help`.
+fn asked_on_target(form: usize, v: Values) -> Command
+    requires { ⌜ 25 ≤ form ⌝ }
+    ensures { λ r. ⌜ r ≡ asksAt (table v) form ⌝ }
+{
+    match form {
+        25 => Command::OnTarget(OnTarget::Lend { bytes: v.two }),
+        26 => Command::OnTarget(OnTarget::Target),
+        27 => Command::OnTarget(OnTarget::Read { from: v.from }),
+        28 => Command::OnTarget(OnTarget::Write),
+        29 => Command::Alter {
             line: v.one,
             from: v.from,
         },
-        24 => Command::Help,
+        30 => Command::Help,
         _ => Command::Unread(Why::Unknown),
     }
 }

@@ -112,7 +112,7 @@ pub fn form_of(line: &[u8]) -> Form
         return Form::None(Why::Empty);
     }
     first_form(
-        b"load H\nopen P\nsave P\nimage\ncheck\njudge N F\nfind F\nlend rows N N\nput good H\nput faulty H\nrows N F\nrefresh N N\nfive N N F\nshow good N\nshow faulty N\nlend book N\nput entry N N\nbook\nentries\nlend pins N\nput pin N N\npin book\npin entries\nalter N H\nhelp",
+        b"load H\nopen P\nimport P\nsave P\nexport P\nimage\ncheck\njudge N F\nfind F\nlend rows N N\nput good H\nput faulty H\nrows N F\nrefresh N N\nfive N N F\nshow good N\nshow faulty N\nlend book N\nput entry N N\nbook\nentries\nlend pins N\nput pin N N\npin book\npin entries\nlend target N\ntarget\nread H\nwrite\nalter N H\nhelp",
         line,
     )
 }

@@ -11,7 +11,7 @@ unfolding table
 asked-spec =
     tie.close
     (tie.spec
-    (λ c κs. past-them _ 0 7 (omega arith) (c .match .rest))
+    (λ c κs. past-them _ 0 9 (omega arith) (c .match .rest))
     (λ c. rw (c .match .keys1))
     (λ c. rw (c .match .keys2))
     (λ c. rw (c .match .keys3))
@@ -19,4 +19,6 @@ asked-spec =
     (λ c. rw (c .match .keys5))
     (λ c. rw (c .match .keys6))
     (λ c. rw (c .match .keys7))
+    (λ c. rw (c .match .keys8))
+    (λ c. rw (c .match .keys9))
     (λ c. search needs))

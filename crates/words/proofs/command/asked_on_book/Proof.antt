@@ -1,6 +1,7 @@
 -- `words::command::asked_on_book` meets its contract, row by row of the table.
 use Rattle.words.specs.Command.{table}
-use Rattle.words.proofs.Laws.Command.{asks-past, past-them}
+use Rattle.words.proofs.Laws.Command.{past-them}
+use borrow.Author.Needs.{needs}
 use Rattle.words.proofs.command.asked_on_book.Statement.{statement}
 use Rattle.words.proofs.command.asked_on_book.Tie as tie
 
@@ -9,6 +10,7 @@ unfolding table
 asked-on-book-spec =
     tie.close
     (tie.spec
+    (λ c κs. past-them _ 17 8 (c .before .pre) (c .match .rest))
     (λ c. rw (c .match .keys1))
     (λ c. rw (c .match .keys2))
     (λ c. rw (c .match .keys3))
@@ -17,6 +19,4 @@ asked-on-book-spec =
     (λ c. rw (c .match .keys6))
     (λ c. rw (c .match .keys7))
     (λ c. rw (c .match .keys8))
-    (λ c. rw (c .match .keys9))
-    (λ c. rw (c .match .keys10))
-    (λ c. asks-past (table (c .before .args .v)) (c .before .args .form) (past-them _ 15 10 (c .before .pre) (c .match .rest))))
+    (λ c. search needs))

@@ -10,7 +10,7 @@ unfolding table
 asked-on-rows-spec =
     tie.close
     (tie.spec
-    (λ c κs. past-them _ 7 8 (c .before .pre) (c .match .rest))
+    (λ c κs. past-them _ 9 8 (c .before .pre) (c .match .rest))
     (λ c. rw (c .match .keys1))
     (λ c. rw (c .match .keys2))
     (λ c. rw (c .match .keys3))
