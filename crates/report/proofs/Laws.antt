@@ -1,3 +1,4 @@
 pub mod Lines
 pub mod Book
 pub mod Tail
+pub mod Front

@@ -85,6 +85,10 @@ pub record RestOf (sort : Sort) (s room : List ℕ) (r : Rest) : Type 0 where
   pub inside : r .lines ≤ suc (length room)
   pub filled : 0 < r .lines → Filled sort s (take (r .lines - 1) room) r
 
+-- two inputs are refused, and alike
+abbrev pub RefusedAlike : List ℕ → List ℕ → Type 0
+RefusedAlike s t = (r : Refusal) × (firstRefusal (imageRefusals s) ≡ some r) × (firstRefusal (imageRefusals t) ≡ some r)
+
 -- the last twelve bytes of s are the first of a buffer
 abbrev pub Tail : List ℕ → List ℕ → Type 0
 Tail s buf = take 12 buf ≡ lastTwelve s

@@ -40,6 +40,13 @@ foundLine said = lineOf (cond (eqb (length said) 1) (text "none\n") (text "#\n")
 abbrev pub drivenLine : List ℕ → List ℕ
 drivenLine said = lineOf (text "drives #\n") said
 
+-- Read's and Write's: read 44, wrote 53
+abbrev pub readLine : List ℕ → List ℕ
+readLine said = lineOf (text "read #\n") said
+
+abbrev pub wroteLine : List ℕ → List ℕ
+wroteLine said = lineOf (text "wrote #\n") said
+
 -- Book's and Alter's, for a book of that length: found 2 of 6
 unfoldable pub countedLine : ℕ → List ℕ → List ℕ
 countedLine all [] = []

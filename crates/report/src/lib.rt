@@ -2,3 +2,5 @@
 pub mod book;
 pub mod input;
 pub mod lines;
+pub mod output;
+pub mod rooms;

@@ -1,9 +1,11 @@
 // The line of what a call says.
+use image::Refusal;
 use image::said::Numbers;
+use image::said::refused;
 use text::form::spell;
 ghost use Prim.Native.Nat.{_+_, _≤_};
 ghost use lib.ListN.{length};
-ghost use Rattle.image.specs.Promise.{unpacked};
+ghost use Rattle.image.specs.Promise.{numbers as numbersOf, unpacked};
 ghost use Rattle.text.specs.Text.{Written, lineRoom};
 ghost use Rattle.report.specs.Lines.{refusedText, lineOf, judgedLine, foundLine, countedLine};
 
@@ -19,6 +21,14 @@ fn refused_line(n: Numbers, out: &mut [u8]) -> usize
         return spell(b"refused # at #\n", &[n.number, n.first], out);
     }
     spell(b"refused # at #.#\n", &[n.number, n.first, n.second], out)
+}
+
+// The line of a refusal.
+pub fn refusal_line(r: Refusal, out: &mut [u8]) -> usize
+    requires { ⌜ lineRoom ≤ length (now out) ⌝ }
+    ensures { λ n. ⌜ Written n (now (out .exit)) (refusedText (numbersOf r)) ⌝ }
+{
+    refused_line(refused(r), out)
 }
 
 // A refusal's line, or the form with the values beside 0.

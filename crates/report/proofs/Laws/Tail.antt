@@ -1,4 +1,4 @@
--- The last twelve bytes of what came, at the front of a buffer: as more comes, and the text that they alone decide.
+-- The last twelve bytes of what came, at the front of a buffer: as more comes, and the refusal that they alone decide.
 use mathlib.Core.Path.{_≡_, refl, sym, _∙_}
 use mathlib.Core.Option.{some}
 use mathlib.Core.List.{List, [], _∷_, _++_}
@@ -14,7 +14,7 @@ use Rattle.image.specs.declared.Refusal.{Refusal}
 use Rattle.image.specs.declared.Refusal.the-variants.{Mark, Counts, Distance}
 use Rattle.image.proofs.Laws.Long.{long-refused}
 use Rattle.report.specs.Lines.{checkedLine}
-use Rattle.report.specs.Book.{programLines, Tail}
+use Rattle.report.specs.Book.{programLines, RefusedAlike, Tail}
 
 -- twelve bytes put at the front of a buffer
 put-first : (bytes after : List ℕ) (r : ℕ) → length bytes ≡ 12 → r ≡ 0 + length bytes → take r after ≡ bytes → take 12 after ≡ bytes
@@ -67,20 +67,24 @@ some-given false false = (Distance, refl)
 refused-text : (s : List ℕ) (r : Refusal) → firstRefusal (imageRefusals s) ≡ some r → programLines s ≡ checkedLine (numbers r) ∷ []
 refused-text s r e = rw e
 
--- inputs longer than any good image have one text where their last twelve bytes are the same
-same-text : (s t : List ℕ) → longestImage < length s → longestImage < length t → lastTwelve t ≡ lastTwelve s → programLines t ≡ programLines s
-same-text s t long longer same =
-    let (r, is) = some-given (unmarked (lastTwelve s)) (miscounted (lastTwelve s)) in
-    refused-text t r (rw same at (long-refused t longer) ∙ is) ∙ sym (refused-text s r (long-refused s long ∙ is))
+-- the text of inputs that are refused alike is the same
+pub same-text : (s t : List ℕ) → RefusedAlike s t → programLines t ≡ programLines s
+same-text s t (r, first, second) = refused-text t r second ∙ sym (refused-text s r first)
 
--- the last twelve bytes put at the end of a long image give the text of all that came
+-- inputs longer than any good image are refused alike where their last twelve bytes are the same
+same-refusal : (s t : List ℕ) → longestImage < length s → longestImage < length t → lastTwelve t ≡ lastTwelve s → RefusedAlike s t
+same-refusal s t long longer same =
+    let (r, is) = some-given (unmarked (lastTwelve s)) (miscounted (lastTwelve s)) in
+    (r, long-refused s long ∙ is, rw same at (long-refused t longer) ∙ is)
+
+-- the last twelve bytes put at the end of a long image have it refused as all that came is
 module _ (s buf img after : List ℕ) (r : ℕ) (room : 12 ≤ length buf) (long : longestImage < length s) (longer : longestImage < length img) where
-  pub text-kept : length after ≡ length img → Tail s buf → r ≡ length img - 12 + length (take 12 buf)
-      → take r after ≡ take (length img - 12) img ++ take 12 buf → programLines after ≡ programLines s
-  text-kept same last end put =
+  pub refusal-kept : length after ≡ length img → Tail s buf → r ≡ length img - 12 + length (take 12 buf)
+      → take r after ≡ take (length img - 12) img ++ take 12 buf → RefusedAlike s after
+  refusal-kept same last end put =
       let twelve : length (take 12 buf) ≡ 12 = length-take-le 12 buf room in
       let whole : r ≡ length img = omega arith in
       let all : after ≡ take (length img - 12) img ++ take 12 buf = sym (rw same at (take-length after)) ∙ rw whole at put in
       let ends : lastTwelve after ≡ lastTwelve s =
       rw (same, all) (drop-at (take (length img - 12) img) (take 12 buf) (length img - 12) (length-take-le (length img - 12) img (omega arith)) ∙ last) in
-      same-text s after long (rw same longer) ends
+      same-refusal s after long (rw same longer) ends

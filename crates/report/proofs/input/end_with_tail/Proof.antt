@@ -1,5 +1,5 @@
 -- `report::input::end_with_tail` meets its contract.
-use Rattle.report.proofs.Laws.Tail.{text-kept}
+use Rattle.report.proofs.Laws.Tail.{refusal-kept}
 use native.Mathlib.Omega.{arith}
 use lib.ListN.{length-take}
 use borrow.Author.Needs.{needs}
@@ -17,7 +17,7 @@ returns c =
     let written = c .before .before in
     let start = written .before .before .before .before .before in
     λ s long tail.
-    text-kept s (start .args .buf .now) (start .args .img .now) _ _ (start .pre .0) long (start .pre .1) (written .put .kept .1 .0) tail (written .put .ensures .0)
+    refusal-kept s (start .args .buf .now) (start .args .img .now) _ _ (start .pre .0) long (start .pre .1) (written .put .kept .1 .0) tail (written .put .ensures .0)
     (written .put .ensures .1)
 
 pub end-with-tail-spec : {M : Type 1} → statement M

@@ -1,9 +1,9 @@
--- `book::read_on` ends: it counts its turns down.
+-- `report::input::read_on` ends: it counts its turns down.
 use mathlib.Core.Path.{_≡_, refl}
 use lib.ListN.{length}
 use borrow.Author.Needs.{needs}
-use Rattle.book.proofs.read_on.Statement.{statement}
-use Rattle.book.proofs.read_on.Tie as tie
+use Rattle.report.proofs.input.read_on.Statement.{statement}
+use Rattle.report.proofs.input.read_on.Tie as tie
 
 abbrev Inv-loop : tie.InvT-loop
 Inv-loop buf₀ turns₀ buf turns = length buf ≡ length buf₀

@@ -1,9 +1,9 @@
--- `book::write_out` lends a part that is in the buffer.
+-- `report::output::write_out` lends a part that is in the buffer.
 use native.Mathlib.Omega.{arith}
 use lib.ListN.{length-take}
 use borrow.Author.Needs.{needs}
-use Rattle.book.proofs.write_out.Statement.{statement}
-use Rattle.book.proofs.write_out.Tie as tie
+use Rattle.report.proofs.output.write_out.Statement.{statement}
+use Rattle.report.proofs.output.write_out.Tie as tie
 
 slice-aggregate-write-all : tie.Need-slice-aggregate-write-all
 slice-aggregate-write-all c = simp length-take (omega arith)
