@@ -17,8 +17,9 @@ ghost use Rattle.five.specs.Five.{fivePromise};
 ghost use Rattle.find.specs.Find.{findPromise};
 ghost use Rattle.find.specs.Book.{bookPromise};
 ghost use Rattle.alter.specs.Alter.{both, alterPromise};
+ghost use Rattle.drawing.specs.Calls.{ByReading, readPromise, writePromise};
 ghost use Rattle.text.specs.Text.{lineRoom};
-ghost use Rattle.report.specs.Lines.{checkedLine, filledLine, judgedLine, foundLine, drivenLine, countedLine};
+ghost use Rattle.report.specs.Lines.{checkedLine, filledLine, judgedLine, foundLine, drivenLine, countedLine, readLine, wroteLine};
 ghost use Rattle.answers.specs.Said.{Said};
 
 // Check.
@@ -133,6 +134,30 @@ pub fn alter_answer(
     counted_line(
         find::said::counted(alter::alter(img, book, pins, line, record)),
         all,
+        out,
+    )
+}
+
+// Read, into the lent target.
+pub fn read_answer(text: &[u8], target: &mut [u8], out: &mut [u8]) -> usize
+    requires { ⌜ lineRoom ≤ length (now out) ⌝ }
+    ensures { λ n. ⌜ ByReading (now (text .entry)) (λ is. Said (readPromise is (now (target .entry))) (now (target .exit) ∷ []) readLine n (now (out .exit))) ⌝ }
+{
+    answer_line(
+        drawing::said::made(drawing::read(text, target)),
+        b"read #\n",
+        out,
+    )
+}
+
+// Write, into the lent target.
+pub fn write_answer(img: &[u8], target: &mut [u8], out: &mut [u8]) -> usize
+    requires { ⌜ lineRoom ≤ length (now out) ⌝ }
+    ensures { λ n. ⌜ Said (writePromise (now (img .entry)) (now (target .entry))) (now (target .exit) ∷ []) wroteLine n (now (out .exit)) ⌝ }
+{
+    answer_line(
+        drawing::said::made(drawing::write(img, target)),
+        b"wrote #\n",
         out,
     )
 }

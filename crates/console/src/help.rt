@@ -5,7 +5,7 @@ use words::command::Why;
 // help: the commands, on one line.
 pub fn write_help() {
     write_plain(
-        b"load HEX, open PATH, save PATH, image, lend rows G F, lend book N, put good HEX, put faulty HEX, put entry K NUMBER, lend pins N, put pin K NUMBER, check, rows PATTERN FAULT, judge PATTERN FAULT, find FAULT, book, pin book, alter LINE HEX, refresh LINE PATTERN, five NAMED VALUES FAULT, show good FROM, show faulty FROM, entries, pin entries, help; FAULT is LINE/STUCK or LINE.PIN/STUCK\n",
+        b"load HEX, open PATH, import PATH, save PATH, export PATH, image, lend rows G F, lend book N, put good HEX, put faulty HEX, put entry K NUMBER, lend pins N, put pin K NUMBER, check, rows PATTERN FAULT, judge PATTERN FAULT, find FAULT, book, pin book, alter LINE HEX, refresh LINE PATTERN, five NAMED VALUES FAULT, show good FROM, show faulty FROM, entries, pin entries, lend target N, target, read HEX, write, help; FAULT is LINE/STUCK or LINE.PIN/STUCK\n",
     );
 }
 

@@ -5,3 +5,4 @@ pub mod on_book;
 mod on_both;
 mod on_image;
 pub mod on_rows;
+pub mod on_target;

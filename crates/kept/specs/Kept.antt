@@ -6,6 +6,7 @@ use Prim.Native.Nat.{ℕ, _/_, _≤_, _<_}
 use lib.ListN.{length, drop}
 use Rattle.board.specs.Lists.{build}
 use Rattle.words.specs.Hex.{hexBytes}
+use Rattle.report.specs.Rooms.{mostTarget}
 use Rattle.kept.specs.declared.Held.{Held}
 use Rattle.kept.specs.declared.lent_rows.Lengths.{Lengths}
 use Rattle.kept.specs.declared.lent_book.BookLengths.{BookLengths}
@@ -47,6 +48,7 @@ pub record Within (h : Held) : Type 0 where
   pub image : h .image ≤ mostImage
   pub rows : RowsWithin (h .rows)
   pub books : BooksWithin (h .books)
+  pub target : h .target ≤ mostTarget
 
 -- the arrays are as long as they can be lent
 pub record Arrays (img good faulty book pins : List ℕ) : Type 0 where
@@ -56,11 +58,11 @@ pub record Arrays (img good faulty book pins : List ℕ) : Type 0 where
   pub line-book : length book ≡ mostBook
   pub pin-book : length pins ≡ mostPins
 
--- lend book and lend pins: a fresh book of that length at the front of the array, and nothing changed where it is too long
-pub record LendBookLeaves (n old : ℕ) (book : List ℕ) (r : ℕ) (after : List ℕ) : Type 0 where
-  pub within : old ≤ length book → r ≤ length book
-  pub lends : n ≤ length book → (r ≡ n) × (after ≡ alike freshNumber n ++ drop n book)
-  pub refuses : length book < n → (r ≡ old) × (after ≡ book)
+-- lend book, lend pins and lend target: n fresh numbers at the front of the array, and nothing changed where they are too many
+pub record LendLeaves (fresh n old : ℕ) (array : List ℕ) (r : ℕ) (after : List ℕ) : Type 0 where
+  pub within : old ≤ length array → r ≤ length array
+  pub lends : n ≤ length array → (r ≡ n) × (after ≡ alike fresh n ++ drop n array)
+  pub refuses : length array < n → (r ≡ old) × (after ≡ array)
 
 -- lend rows: the same of two rows
 pub record LendRowsLeaves (g f : ℕ) (old : Lengths) (good faulty : List ℕ) (r : Lengths) (goodAfter faultyAfter : List ℕ) : Type 0 where
@@ -69,6 +71,12 @@ pub record LendRowsLeaves (g f : ℕ) (old : Lengths) (good faulty : List ℕ) (
       g ≤ mostRow → f ≤ mostRow
       → (r ≡ record { good = g; faulty = f }) × (goodAfter ≡ alike freshByte g ++ drop g good) × (faultyAfter ≡ alike freshByte f ++ drop f faulty)
   pub refuses : (mostRow < g) ⊎ (mostRow < f) → (r ≡ old) × (goodAfter ≡ good) × (faultyAfter ≡ faulty)
+
+-- a HEX word's bytes at the front of some room, and nothing changed where they are too many
+pub record PutWordLeaves (word room : List ℕ) (r : ℕ) (after : List ℕ) : Type 0 where
+  pub many : r ≡ length word / 2
+  pub puts : r ≤ length room → after ≡ hexBytes word ++ drop r room
+  pub refuses : length room < r → after ≡ room
 
 -- put good and put faulty: a HEX word's bytes at the front of the array, and nothing changed where they are too many
 pub record PutRowLeaves (word row : List ℕ) (old r : ℕ) (after : List ℕ) : Type 0 where

@@ -1,32 +1,24 @@
 // A new image, and what is lent anew for it.
 use crate::Held;
+use crate::brought::MOST_IMAGE;
+use crate::brought::bring_image;
 use crate::lent_book::BookLengths;
 use crate::lent_book::freshen_book;
 use crate::lent_rows::Lengths;
 use crate::lent_rows::freshen_row;
 use answers::check_answer;
-use bytes::copy;
 use image::Checked;
 use image::asked::check_image;
 use image::limits::Entry;
-use image::numbers::tail;
-use ports::files::read_file;
 use ports::write::write_out;
-use ports::write::write_plain;
 use text::line::blank_line;
 use words::command::Anew;
-use words::hex::bytes_of;
-use words::hex::unpack;
 ghost use mathlib.Core.Path.{_≡_};
 ghost use Prim.Native.Nat.{_≤_};
 ghost use lib.ListN.{length};
 ghost use Rattle.board.specs.Limits.{mostLines};
+ghost use Rattle.report.specs.Rooms.{mostTarget};
 ghost use Rattle.kept.specs.Kept.{Within, Arrays, mostImage};
-
-// The longest image that the console keeps, and one byte more, by which a longer file is told.
-pub const MOST_IMAGE: usize = 65536;
-
-const FILE: usize = MOST_IMAGE + 1;
 
 // How many lines an image has, and 0 where it is refused.
 fn lines_of(img: &[u8]) -> usize
@@ -45,7 +37,7 @@ fn write_check(img: &[u8]) {
     write_out(&out, n);
 }
 
-// Lends fresh rows and fresh books for the image of n bytes, and answers as Check does.
+// Lends fresh rows and fresh books for the image of n bytes, and answers as Check does; the target stays as it is.
 fn take_image(
     n: usize,
     img: &[u8],
@@ -53,8 +45,9 @@ fn take_image(
     faulty: &mut [u8],
     book: &mut [Entry],
     pins: &mut [Entry],
+    target: usize,
 ) -> Held
-    requires { ⌜ (n ≤ mostImage) × Arrays (now img) (now good) (now faulty) (now book) (now pins) ⌝ }
+    requires { ⌜ (n ≤ mostImage) × (target ≤ mostTarget) × Arrays (now img) (now good) (now faulty) (now book) (now pins) ⌝ }
     ensures { λ r. ⌜ Within r ⌝ }
 {
     let lines = lines_of(&img[..n]);
@@ -75,29 +68,11 @@ fn take_image(
             lines: entries,
             pins: pin_entries,
         },
+        target,
     }
 }
 
-// Room for one byte more than the longest image has.
-fn blank_file() -> [u8; FILE]
-    ensures { λ r. ⌜ 65537 ≡ length r ⌝ }
-{
-    [0u8; FILE]
-}
-
-// Puts a file's bytes in the image's array, and gives how many; more than the longest image has where it can't be read or is larger.
-fn read_image(path: &[u8], img: &mut [u8]) -> usize
-    requires { ⌜ length (now img) ≡ mostImage ⌝ }
-{
-    let mut room = blank_file();
-    let n = read_file(path, &mut room);
-    if n <= MOST_IMAGE {
-        copy(&room[..n], img);
-    }
-    n
-}
-
-// load: the image becomes a HEX word's bytes. open: the same from a file. Where there are too many, nothing changes.
+// The command's image, and what is lent for it; where it brings none, nothing changes.
 pub fn anew(
     asked: Anew,
     line: &[u8],
@@ -111,23 +86,9 @@ pub fn anew(
     requires { ⌜ Arrays (now img) (now good) (now faulty) (now book) (now pins) × Within held ⌝ }
     ensures { λ r. ⌜ Within r ⌝ }
 {
-    match asked {
-        Anew::Load { from } => {
-            let word = tail(line, from);
-            if MOST_IMAGE < bytes_of(word) {
-                write_plain(b"? too many bytes\n");
-                return held;
-            }
-            let n = unpack(word, img);
-            take_image(n, img, good, faulty, book, pins)
-        }
-        Anew::Open { from } => {
-            let n = read_image(tail(line, from), img);
-            if MOST_IMAGE < n {
-                write_plain(b"? cannot read\n");
-                return held;
-            }
-            take_image(n, img, good, faulty, book, pins)
-        }
+    let n = bring_image(asked, line, img);
+    if MOST_IMAGE < n {
+        return held;
     }
+    take_image(n, img, good, faulty, book, pins, held.target)
 }

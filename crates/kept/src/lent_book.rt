@@ -3,7 +3,7 @@ use image::limits::Entry;
 use ports::write::write_plain;
 ghost use mathlib.Core.Path.{_≡_};
 ghost use lib.ListN.{length};
-ghost use Rattle.kept.specs.Kept.{mostBook, mostPins, freshNumber, alike, LendBookLeaves};
+ghost use Rattle.kept.specs.Kept.{mostBook, mostPins, freshNumber, alike, LendLeaves};
 
 // The longest line book and pin book that the console keeps, and the number of a fresh one.
 pub const MOST_BOOK: usize = 16384;
@@ -44,7 +44,7 @@ pub fn freshen_book(book: &mut [Entry])
 
 // lend book and lend pins: a fresh book of that length in an array. Gives its length, which is the old one where it is too long.
 pub fn lend_book(numbers: u64, book: &mut [Entry], old: usize) -> usize
-    ensures { λ r. ⌜ LendBookLeaves numbers old (now (book .entry)) r (now (book .exit)) ⌝ }
+    ensures { λ r. ⌜ LendLeaves freshNumber numbers old (now (book .entry)) r (now (book .exit)) ⌝ }
 {
     let n = numbers as usize;
     if book.len() < n {

@@ -1,7 +1,6 @@
 // The two rows.
+use crate::word::put_word;
 use ports::write::write_plain;
-use words::hex::bytes_of;
-use words::hex::unpack;
 ghost use mathlib.Core.Path.{_≡_};
 ghost use lib.ListN.{length};
 ghost use Rattle.kept.specs.Kept.{mostRow, freshByte, alike, LendRowsLeaves, PutRowLeaves};
@@ -60,10 +59,10 @@ pub fn put_row(word: &[u8], row: &mut [u8], old: usize) -> usize
     requires { ⌜ length (now row) ≡ mostRow ⌝ }
     ensures { λ r. ⌜ PutRowLeaves (now (word .entry)) (now (row .entry)) old r (now (row .exit)) ⌝ }
 {
-    if MOST_ROW < bytes_of(word) {
-        write_plain(b"? too many bytes\n");
+    let n = put_word(word, row);
+    if MOST_ROW < n {
         return old;
     }
     write_plain(b"lent\n");
-    unpack(word, row)
+    n
 }

@@ -36,6 +36,18 @@ pub fn blank_input() -> [u8; ROOMY]
     [0u8; ROOMY]
 }
 
+// The place before anything is read.
+pub fn first_place() -> Place
+    ensures { λ r. ⌜ Inside roomy r ⌝ }
+{
+    Place {
+        start: 0,
+        seen: 0,
+        end: 0,
+        skips: false,
+    }
+}
+
 // What the line is that ends with the line feed at k.
 fn ended(at: Place, k: usize) -> Step
     requires { ⌜ (at .start ≤ k) × (k < at .end) × (at .end ≤ roomy) ⌝ }

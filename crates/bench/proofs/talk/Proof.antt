@@ -1,43 +1,63 @@
 -- `bench::talk` ends: it counts its turns down, and the arrays keep their lengths.
-use mathlib.Core.Path.{_≡_}
+use mathlib.Core.Path.{_≡_, sym, _∙_}
 use native.Mathlib.Omega.{arith}
 use lib.ListN.{length}
+use Rattle.report.specs.Rooms.{mostTarget}
 use Rattle.ports.specs.Input.{Inside, roomy}
-use Rattle.kept.specs.Kept.{Within}
+use Rattle.kept.specs.Kept.{Within, Arrays}
 use borrow.Author.Needs.{needs}
 use Rattle.bench.proofs.talk.Statement.{statement}
 use Rattle.bench.proofs.talk.Tie as tie
 
 abbrev Inv-loop : tie.InvT-loop
-Inv-loop buf₀ img₀ good₀ faulty₀ book₀ pins₀ at₀ held₀ turns₀ buf img good faulty book pins at held turns = (length buf ≡ length buf₀) × (length img ≡ length img₀) × (length good ≡ length good₀) × (length faulty ≡ length faulty₀) × (length book ≡ length book₀) × (length pins ≡ length pins₀) × Inside roomy at × Within held
+Inv-loop buf₀ img₀ good₀ faulty₀ book₀ pins₀ target₀ at₀ held₀ turns₀ buf img good faulty book pins target at held turns = (length buf ≡ roomy) × Arrays img good faulty book pins × (length target ≡ mostTarget) × Inside roomy at × Within held
 
 abbrev μ-loop : tie.MeasureT-loop
-μ-loop buf₀ img₀ good₀ faulty₀ book₀ pins₀ at₀ held₀ turns₀ buf img good faulty book pins at held turns = turns
+μ-loop buf₀ img₀ good₀ faulty₀ book₀ pins₀ target₀ at₀ held₀ turns₀ buf img good faulty book pins target at held turns = turns
 
--- a turn, and the loop before it
-abbrev turned : tie.After-struct-known Inv-loop μ-loop → tie.After-turn Inv-loop μ-loop
-turned c = c .before .before .before .before .before .before .before .before .before .before .before .before .before
+-- what was obeyed; what was heard before; and the turn's start
+abbrev obeyed : tie.After-at Inv-loop μ-loop → tie.After-obey Inv-loop μ-loop
+obeyed c = c .before .before .before .before .before .before .before .before .before .before .before .before .before
 
-abbrev looped : tie.After-struct-known Inv-loop μ-loop → tie.At-loop Inv-loop μ-loop
-looped c = turned c .before .before .before .before .before .before .before .before
+abbrev heard : tie.After-obey Inv-loop μ-loop → tie.After-struct-known Inv-loop μ-loop
+heard c = c .before .before .before .before .before .before .before .before .before .before
+
+abbrev looped : tie.After-struct-known Inv-loop μ-loop → tie.In-loop Inv-loop μ-loop
+looped c = c .before .before .before .before .before
+
+abbrev begun : tie.In-loop Inv-loop μ-loop → tie.Start Inv-loop μ-loop
+begun c = c .before .before .before .before .before .before .before .before .before .before .before
 
 loop-again : tie.Need-loop-again Inv-loop μ-loop
 loop-again c =
-    let next = c .before .before .before in
-    let kept = turned next .turn .kept in
-    let inv = looped next .loop .inv in
-    let (place, within) = turned next .turn .ensures in
-    (omega (arith, kept, inv), omega (arith, kept, inv), omega (arith, kept, inv), omega (arith, kept, inv), omega (arith, kept, inv), omega (arith, kept, inv), place, within)
+    let done = obeyed (c .before) in
+    let kept = done .obey .kept in
+    let listened = heard done .before .before .before in
+    let inv = looped (heard done) .before .loop .inv in (
+      omega (arith, listened .listen .kept, inv .0),
+      record {
+        image = kept .1 .0 ∙ inv .1 .image;
+        good-row = kept .1 .1 .0 ∙ inv .1 .good-row;
+        faulty-row = kept .1 .1 .1 .0 ∙ inv .1 .faulty-row;
+        line-book = kept .1 .1 .1 .1 .0 ∙ inv .1 .line-book;
+        pin-book = kept .1 .1 .1 .1 .1 .0 ∙ inv .1 .pin-book;
+      },
+      kept .1 .1 .1 .1 .1 .1 .0 ∙ inv .2,
+      listened .listen .ensures .place,
+      done .obey .ensures,
+    )
 
 pub talk-spec : {M : Type 1} → statement M
 talk-spec =
     tie.close
-    (tie.spec Inv-loop μ-loop (λ c. search needs) (λ c κs. search needs)
-    (λ c. omega (arith, turned (c .before) .turn .kept, looped (c .before) .loop .inv))
-    (λ c. omega (arith, turned (c .before) .turn .kept, looped (c .before) .loop .inv))
-    (λ c. omega (arith, turned (c .before) .turn .kept, looped (c .before) .loop .inv))
-    (λ c. omega (arith, turned (c .before) .turn .kept, looped (c .before) .loop .inv))
-    (λ c. omega (arith, turned (c .before) .turn .kept, looped (c .before) .loop .inv))
-    (λ c. omega (arith, turned (c .before) .turn .kept, looped (c .before) .loop .inv))
-    (λ c. search needs) (λ c. search needs) (λ c. search needs) loop-again (λ c. search needs) (λ c. search needs) (λ c. search needs)
-    (λ c. search needs) (λ c. search needs) (λ c. search needs) (λ c. search needs))
+    (tie.spec Inv-loop μ-loop (λ c κs. search needs) (λ c κs. search needs) (λ c. search needs) (λ c κs. search needs)
+    (λ c. omega (arith, c .before .before .before .before .listen .kept, looped (c .before) .before .loop .inv, begun (looped (c .before)) .pre))
+    (λ c. looped (c .before) .before .loop .inv .1 .image ∙ sym (begun (looped (c .before)) .pre .1 .image))
+    (λ c. looped (c .before) .before .loop .inv .1 .good-row ∙ sym (begun (looped (c .before)) .pre .1 .good-row))
+    (λ c. looped (c .before) .before .loop .inv .1 .faulty-row ∙ sym (begun (looped (c .before)) .pre .1 .faulty-row))
+    (λ c. looped (c .before) .before .loop .inv .1 .line-book ∙ sym (begun (looped (c .before)) .pre .1 .line-book))
+    (λ c. looped (c .before) .before .loop .inv .1 .pin-book ∙ sym (begun (looped (c .before)) .pre .1 .pin-book))
+    (λ c. looped (c .before) .before .loop .inv .2 ∙ sym (begun (looped (c .before)) .pre .2)) (λ c. search needs) (λ c. search needs)
+    (λ c. search needs) (λ c. search needs) (λ c κs. search needs) (λ c κs. looped (heard (obeyed c)) .loop-test .taken) (λ c. search needs)
+    loop-again (λ c. search needs) (λ c. search needs) (λ c. search needs) (λ c. search needs) (λ c. search needs) (λ c. search needs)
+    (λ c. search needs) (λ c. search needs))

@@ -1,24 +1,22 @@
 -- `kept::lent_book::lend_book` meets its contract: it lends a part that is in the array.
-use mathlib.Core.Path.{_≡_, refl}
 use native.Mathlib.Omega.{arith}
-use lib.ListN.{length, take, length-take}
+use lib.ListN.{length-take}
+use Rattle.kept.specs.Kept.{freshNumber}
+use Rattle.kept.proofs.Laws.Lend.{lends-none, lends-fresh}
 use borrow.Author.Needs.{needs}
 use Rattle.kept.proofs.lent_book.lend_book.Statement.{statement}
 use Rattle.kept.proofs.lent_book.lend_book.Tie as tie
 
 returns : tie.Need-returns
-returns c = record { within = λ l. l; lends = λ l. absurd (omega (arith, l, c .before .before .if1 .taken)); refuses = λ l. (refl, refl) }
+returns c = lends-none freshNumber _ _ _ (c .before .before .if1 .taken)
 
 slice-aggregate-freshen-book : tie.Need-slice-aggregate-freshen-book
 slice-aggregate-freshen-book c = simp length-take (omega arith)
 
 returns-2 : tie.Need-returns-2
 returns-2 c =
-    let fresh = c .before .before .before .before in
-    let past = fresh .before .before in
-    let a = past .before .before .args in
-    let size : length (take (a .numbers) (a .book .now)) ≡ a .numbers = simp length-take (omega arith) in
-    record { within = λ l. past .if1 .left; lends = λ l. (refl, rw (fresh .freshen-book .ensures, size)); refuses = λ l. absurd (omega (arith, l, past .if1 .left)) }
+    let made = c .before .before .before .before in
+    lends-fresh freshNumber _ _ _ _ (made .before .before .if1 .left) (made .freshen-book .ensures)
 
 pub lend-book-spec : {M : Type 1} → statement M
 lend-book-spec =
