@@ -16,6 +16,7 @@ ghost use Rattle.five.specs.Five.{fivePromise};
 ghost use Rattle.find.specs.Find.{findPromise};
 ghost use Rattle.find.specs.Book.{bookPromise};
 ghost use Rattle.alter.specs.Alter.{both, alterPromise};
+ghost use Rattle.drawing.specs.Calls.{ByReading, readPromise, writePromise};
 ghost use Rattle.exports.specs.Fault.{faultNamed};
 ghost use Rattle.exports.specs.Exported.{Exported};
 ghost use Rattle.exports.specs.Show.{showPromise};
@@ -155,4 +156,20 @@ pub extern "C" fn fortizembo_alter(
     ensures { λ r. ⌜ Exported (alterPromise (now (img .entry)) (both (now (book .entry)) (now (pins .entry))) line (now («record» .entry))) (now (img .exit) ∷ now (book .exit) ∷ now (pins .exit) ∷ []) r ⌝ }
 {
     find::said::counted(alter::alter(img, book, pins, line, *record))
+}
+
+// Read: the image that a text names in front of the target, and its length.
+#[no_mangle]
+pub extern "C" fn fortizembo_read(text: &[u8], target: &mut [u8]) -> Numbers
+    ensures { λ r. ⌜ ByReading (now (text .entry)) (λ is. Exported (readPromise is (now (target .entry))) (now (target .exit) ∷ []) r) ⌝ }
+{
+    drawing::said::made(drawing::read(text, target))
+}
+
+// Write: an image's drawing in front of the target, and its length.
+#[no_mangle]
+pub extern "C" fn fortizembo_write(img: &[u8], target: &mut [u8]) -> Numbers
+    ensures { λ r. ⌜ Exported (writePromise (now (img .entry)) (now (target .entry))) (now (target .exit) ∷ []) r ⌝ }
+{
+    drawing::said::made(drawing::write(img, target))
 }
