@@ -26,7 +26,7 @@ use Rattle.drawing.proofs.Laws.WriteCall.{made-told}
 use Rattle.drawing.proofs.Laws.ImageBytes.{image-refusals, image-board}
 use Rattle.drawing.proofs.Laws.ImageAgain.{Bytes, image-again}
 use Rattle.drawing.proofs.Laws.ImageAccepted.{counts-good, again-accepted}
-use Rattle.drawing.proofs.Laws.Settled.{reads-one}
+use Rattle.drawing.proofs.Laws.Settled.{reads-one, read-alike}
 use Rattle.drawing.proofs.Laws.RoundTrip.{unrefused, first-none-both, none-first, never-none, long-enough, both, leaves, first-bytes}
 
 -- of a record, an output or the target
@@ -41,8 +41,9 @@ board-refused none none false r e = never-none r (sym e)
 -- any two outcomes that the reader's promise allows are equal, since a text is one reading only
 pub read-pinned : (t target : List ℕ) (a b : Made) (left later : List (List ℕ)) → ByReading t (λ is. Owes (readPromise is target) left (madeSays a))
     → ByReading t (λ is. Owes (readPromise is target) later (madeSays b)) → (a ≡ b) × (left ≡ later)
-read-pinned t target a b left later (is, reads, owes) (was, also, owed) =
-    pinned made-told (readPromise is target) a b left later owes (rw (reads-one t was is also reads) at owed)
+read-pinned t target a b left later one other =
+    let (is, owes, owed) = read-alike t (λ is. Owes (readPromise is target) left (madeSays a)) (λ is. Owes (readPromise is target) later (madeSays b)) one other in
+    pinned made-told (readPromise is target) a b left later owes owed
 
 -- the reader refuses by 13, 2, 4, 5 or 14: an image made of a board has its mark and its distance
 pub read-numbers : (is : Reading) (target : List ℕ) (r : Refusal) → firstRefusal (readRefusals is target) ≡ some r → getD (numbers r) 0 0 among (13 ∷ 2 ∷ 4 ∷ 5 ∷ 14 ∷ [])

@@ -1,4 +1,3 @@
 pub mod Lines
 pub mod Book
 pub mod Tail
-pub mod Front

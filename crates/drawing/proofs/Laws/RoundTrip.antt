@@ -1,11 +1,11 @@
 -- What a call that was not refused leaves, for the round trip: where no refusal applies, and what stands in front of a target.
-use mathlib.Core.Path.{_≡_, refl}
+use mathlib.Core.Path.{_≡_, refl, ap}
 use mathlib.Core.Option.{Option, none, some}
 use mathlib.Core.List.{List, [], _∷_}
 use Prim.Native.Nat.{ℕ, _≤_}
 use native.Mathlib.Nat.{not-suc-le-zero}
 use native.Mathlib.Omega.{arith}
-use lib.ListN.{length, take, drop}
+use lib.ListN.{length, take, drop, length-append}
 use lib.Seq.{take-append-seam}
 use borrow.Author.Tests.{le-ltb}
 use Rattle.image.specs.Refusals.{firstRefusal}
@@ -56,3 +56,10 @@ pub first-bytes : (made target left : List ℕ) (n : ℕ) → Leaves made target
 first-bytes made target left n l =
     let long : n ≡ length made = cc (l .says) in
     rw (long, l .holds) (take-append-seam made (drop (length made) target))
+
+-- they fit the target
+pub made-fits : (rs : List (Option Refusal)) (made target left : List ℕ) (n : ℕ) → Owes (making rs made target) (left ∷ []) (0 ∷ n ∷ []) → length left ≡ length target → n ≤ length target
+made-fits rs made target left n owes same =
+    let l = leaves rs made target left (0 ∷ n ∷ []) owes (unrefused owes) in
+    let long : n ≡ length made = cc (l .says) in
+    omega (arith, ap length (l .holds), length-append made (drop (length made) target))

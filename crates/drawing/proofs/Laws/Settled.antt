@@ -15,7 +15,7 @@ use Rattle.board.proofs.Lists.{way}
 use Rattle.text.specs.Text.{each}
 use Rattle.drawing.specs.Form.{inputText, outputText, linesText, textOf, lastNumber, Worded, Drawn, Departs}
 use Rattle.drawing.specs.Inner.{Statement, input, output, gate, Sound, an-input, an-output, a-gate, statementText}
-use Rattle.drawing.specs.Calls.{Reading, names, departs, Reads}
+use Rattle.drawing.specs.Calls.{Reading, names, departs, Reads, ByReading}
 use Rattle.drawing.proofs.Laws.Stops.{share-less}
 use Rattle.drawing.proofs.Laws.Lines.{text-some}
 use Rattle.drawing.proofs.Laws.Feed.{statement-split}
@@ -205,3 +205,7 @@ reads-one t (names b) (names c) (drawn, e) (also, f) = ap names (drawn-told b c 
 reads-one t (departs n) (departs m) first second = ap departs (departs-one t n m first second)
 reads-one t (names b) (departs m) (drawn, e) second = absurd (second .not-so (b, drawn, e))
 reads-one t (departs n) (names c) first (drawn, e) = absurd (first .not-so (c, drawn, e))
+
+-- so what is owed of a text by two outcomes is owed by one reading
+pub read-alike : (t : List ℕ) (P Q : Reading → Type 0) → ByReading t P → ByReading t Q → (is : Reading) × P is × Q is
+read-alike t P Q (is, reads, owed) (was, also, owes) = (is, owed, rw (reads-one t was is also reads) at owes)

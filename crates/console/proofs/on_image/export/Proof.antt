@@ -5,7 +5,7 @@ use lib.ListN.{length-take}
 use Rattle.image.specs.Image.{boardOf}
 use Rattle.drawing.specs.Form.{textOf}
 use Rattle.report.specs.Rooms.{mostTarget}
-use Rattle.report.proofs.Laws.Front.{front-within}
+use Rattle.drawing.proofs.Laws.RoundTrip.{made-fits}
 use borrow.Author.Needs.{needs}
 use Rattle.console.proofs.on_image.export.Statement.{statement}
 use Rattle.console.proofs.on_image.export.Tie as tie
@@ -18,7 +18,7 @@ few c =
     let blank = wrote .before .before in
     let img = blank .before .before .before .args .img .now in
     let owed = rw (told .n .given .1) at (wrote .write .ensures) in
-    omega (arith, front-within _ (textOf (boardOf img)) _ _ _ owed (wrote .write .kept .1 .0), blank .blank-target .ensures)
+    omega (arith, made-fits _ (textOf (boardOf img)) _ _ _ owed (wrote .write .kept .1 .0), blank .blank-target .ensures)
 
 array-share-prefix-text : tie.Need-array-share-prefix-text
 array-share-prefix-text c = omega (arith, few c)
