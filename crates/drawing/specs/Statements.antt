@@ -1,4 +1,4 @@
--- The statements of a drawing, one by one.
+-- The statements of a drawing, one by one, as the writer puts them: no call's promise rests on it.
 use mathlib.Core.List.{List, [], _++_}
 use mathlib.Core.Bool.{cond}
 use Prim.Native.Nat.{ℕ, zero, suc, _+_, _-_, _≤_, _<_}

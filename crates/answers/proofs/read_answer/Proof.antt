@@ -9,9 +9,11 @@ returns c =
     let line = c .before .before in
     let made = line .before .before .before in
     let read = made .before .before .before in
-    let (is, reads-so, owed) = read .read .ensures in
-    (is, reads-so,
-    record { said = madeSays (read .read .result); owed = owed; numbers = made .made .result; packs = made .made .ensures; written = line .answer-line .ensures })
+    let (is, reads-so, owed) = read .read .ensures in (
+      is,
+      reads-so,
+      record { said = madeSays (read .read .result); owed = owed; numbers = made .made .result; packs = made .made .ensures; written = line .answer-line .ensures },
+    )
 
 pub read-answer-spec : {M : Type 1} → statement M
 read-answer-spec =
