@@ -1,6 +1,6 @@
 // The number that a text goes on with.
 ghost use mathlib.Core.Path.{_≡_};
-ghost use Prim.Native.Nat.{_+_, _<_, _≤_};
+ghost use Prim.Native.Nat.{_+_, _<_};
 ghost use Rattle.drawing.specs.Inner.{Digit, Counted};
 
 // A number and how long it is; its length is 0 where there is none.

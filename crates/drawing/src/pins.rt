@@ -5,7 +5,7 @@ use crate::number::read_number;
 use image::numbers::tail;
 ghost use mathlib.Core.Path.{_≡_};
 ghost use mathlib.Core.List.{_∷_};
-ghost use Prim.Native.Nat.{_≤_, _<_};
+ghost use Prim.Native.Nat.{_<_};
 ghost use lib.ListN.{take};
 ghost use Rattle.drawing.specs.Inner.{PinRead, PinsRead, pinsTo, four};
 

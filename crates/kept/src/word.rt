@@ -2,7 +2,6 @@
 use ports::write::write_plain;
 use words::hex::bytes_of;
 use words::hex::unpack;
-ghost use lib.ListN.{length};
 ghost use Rattle.kept.specs.Kept.{PutWordLeaves};
 
 // Puts a HEX word's bytes in front of some room, and gives how many they are; where they are too many, answers so and changes nothing.

@@ -1,19 +1,19 @@
 -- What may follow the statements read so far: every text of the form that shares them goes on with such.
-use mathlib.Core.Path.{_≡_, refl, sym, ap, _∙_}
-use mathlib.Core.Logic.{⊎-elim, _⊎_, inl, inr}
-use mathlib.Core.Bool.{true, false, cond}
-use mathlib.Core.List.{List, [], _∷_, _++_, append-assoc, append-nil}
-use Prim.Native.Nat.{ℕ, zero, suc, _+_, _-_, _≤_, _<_}
+use mathlib.Core.Path.{_≡_, refl, ap, _∙_}
+use mathlib.Core.Logic.{inl, inr}
+use mathlib.Core.Bool.{cond}
+use mathlib.Core.List.{List, [], _∷_, _++_, append-assoc}
+use Prim.Native.Nat.{ℕ, suc, _+_, _-_, _≤_, _<_}
 use native.Mathlib.Nat.{add-suc, suc-add, add-zero, zero-add}
 use native.Mathlib.Omega.{arith}
 use lib.Dec.{eqb, lit≤}
-use lib.ListN.{length, getD, take, drop, length-append, length-take, length-drop}
-use lib.Seq.{take-length, length-take-le, getD-take, getD-drop}
+use lib.ListN.{length, getD, take, drop, length-append, length-drop}
+use lib.Seq.{length-take-le, getD-take, getD-drop}
 use borrow.Author.Tests.{eq-eqb, ne-eqb}
 use Rattle.board.specs.Lists.{_among_}
-use Rattle.board.specs.Board.{Record, Board, recordOf, leading, inputs}
+use Rattle.board.specs.Board.{Record, Board, inputs}
 use Rattle.text.specs.Text.{each}
-use Rattle.drawing.specs.Form.{inputText, outputText, gateText, linesText, textOf, lastNumber, Worded, Drawn}
+use Rattle.drawing.specs.Form.{outputText, linesText, textOf, lastNumber, Worded, Drawn}
 use Rattle.drawing.specs.Inner.{bare, Statement, input, output, gate, section, Sound, an-input, an-output, a-gate, statementText}
 use Rattle.drawing.proofs.Laws.WriteText.{leads, leading-few}
 use Rattle.drawing.proofs.Laws.Lines.{text-some}

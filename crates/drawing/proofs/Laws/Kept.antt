@@ -8,12 +8,12 @@ use lib.Dec.{lit<}
 use lib.ListN.{length, getD, take, replicate, length-append}
 use lib.Seq.{getD-take}
 use Rattle.board.specs.Lists.{_among_}
-use Rattle.board.specs.Limits.{mostLines, mostOutputs, lastKind}
+use Rattle.board.specs.Limits.{mostLines, mostOutputs}
 use Rattle.board.specs.Board.{Record, Board}
 use Rattle.text.specs.Text.{each}
-use Rattle.drawing.specs.Form.{lastNumber, Worded}
+use Rattle.drawing.specs.Form.{lastNumber}
 use Rattle.drawing.specs.Image.{wordBytes, recordBytes, linesBytes}
-use Rattle.drawing.specs.Inner.{bare, four, Small, Kept, Statement, input, output, gate, add, Sound, an-output, a-gate, Lined, Storable, ToldBy, KeepsMore}
+use Rattle.drawing.specs.Inner.{bare, four, Small, Kept, output, gate, Sound, an-output, a-gate, Lined, Storable, KeepsMore}
 use Rattle.drawing.specs.declared.pins.Four.{Four}
 use Rattle.drawing.specs.declared.form.Tally.{Tally}
 use Rattle.drawing.specs.declared.line.Line.{Line}

@@ -1,16 +1,15 @@
 -- A statement read piece by piece: what each step adds to what was read.
-use mathlib.Core.Path.{_≡_, refl, sym, ap, _∙_}
-use mathlib.Core.List.{List, [], _∷_, _++_, append-assoc}
-use Prim.Native.Nat.{ℕ, zero, suc, _+_, _-_, _≤_, _<_}
+use mathlib.Core.Path.{_≡_, sym, ap, _∙_}
+use mathlib.Core.List.{List, _++_, append-assoc}
+use Prim.Native.Nat.{ℕ, _+_, _-_, _≤_, _<_}
 use native.Mathlib.Nat.{add-assoc}
 use native.Mathlib.Omega.{arith}
-use lib.Dec.{lit≤, lit<}
-use lib.ListN.{length, take, drop, replicate, length-append, length-drop}
+use lib.ListN.{length, drop, length-append, length-drop}
 use lib.Seq.{drop-drop}
 use Rattle.board.specs.Board.{Record}
 use Rattle.text.specs.Text.{decimal}
-use Rattle.drawing.specs.Form.{inputText, outputText, gateText, lastNumber, Worded}
-use Rattle.drawing.specs.Inner.{pieceForms, pieceCount, piece, Stops, Chosen, Pins, GateRest, pinsRest, four, HasPins, Statement, input, output, gate, section, Sound, an-input, an-output, a-gate, statementText, Statements, Begins, Lined, OutputAt, GateAt}
+use Rattle.drawing.specs.Form.{lastNumber}
+use Rattle.drawing.specs.Inner.{pieceForms, pieceCount, piece, Stops, Chosen, Pins, pinsRest, HasPins, Statement, input, output, gate, section, Sound, an-input, an-output, a-gate, statementText, Begins, Lined, OutputAt, GateAt}
 use Rattle.drawing.specs.declared.choose.Choice.the-variants.{Took}
 use Rattle.drawing.specs.declared.pins.Four.{Four}
 use Rattle.drawing.specs.declared.line.Line.{Line}

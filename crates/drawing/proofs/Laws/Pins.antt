@@ -1,22 +1,21 @@
 -- Pins of a statement: where the texts of up to so many pins stop going along with a text.
 use mathlib.Core.Path.{_≡_, refl, sym, ap, _∙_}
 use mathlib.Core.Logic.{⊎-elim, _⊎_, inl, inr}
-use mathlib.Core.Bool.{true, false, cond}
-use mathlib.Core.List.{List, [], _∷_, _++_, append-assoc, append-nil}
-use Prim.Native.Nat.{ℕ, zero, suc, _+_, _*_, _-_, _≤_, _<_}
+use mathlib.Core.Bool.{true, false}
+use mathlib.Core.List.{List, [], _∷_, _++_, append-assoc}
+use Prim.Native.Nat.{ℕ, zero, suc, _+_, _-_, _≤_, _<_}
 use native.Mathlib.Nat.{add-assoc}
 use native.Mathlib.Omega.{arith}
-use lib.Dec.{ltb, eqb, lit≤, lit<}
-use lib.ListN.{length, getD, take, drop, replicate, length-append, length-drop}
+use lib.Dec.{ltb, eqb, lit≤}
+use lib.ListN.{length, take, drop, replicate, length-drop}
 use lib.Seq.{take-take, drop-drop}
-use borrow.Author.Tests.{ltb-true, ltb-false, lt-ltb, eqb-true, eqb-false}
-use Rattle.board.specs.Lists.{_among_}
+use borrow.Author.Tests.{ltb-true, eqb-true, eqb-false}
 use Rattle.board.proofs.Lists.{way}
 use Rattle.text.specs.Text.{decimal}
 use Rattle.drawing.specs.Form.{lastNumber}
-use Rattle.drawing.specs.Inner.{pieceForms, pieceCount, piece, Stops, NoPiece, Digit, Leads, Counted, Chosen, PieceThen, NumberThen, pinsTo, Pins, pinsRest, four, HasPins, GoesOn, PinRead, PinsRead}
+use Rattle.drawing.specs.Inner.{pieceForms, piece, Stops, NoPiece, Digit, Leads, Counted, Chosen, PieceThen, pinsTo, Pins, pinsRest, four, HasPins, GoesOn}
 use Rattle.drawing.specs.declared.number.Number.{Number}
-use Rattle.drawing.specs.declared.choose.Choice.the-variants.{Took, Stop}
+use Rattle.drawing.specs.declared.choose.Choice.the-variants.{Took}
 use Rattle.drawing.specs.declared.pins.Four.{Four}
 use Rattle.drawing.proofs.Laws.Stops.{stops-same, piece-stops, piece-behind, number-stops, number-behind}
 

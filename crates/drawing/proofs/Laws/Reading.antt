@@ -1,20 +1,19 @@
 -- Reading byte by byte: how far a word goes along with a text, and a number digit by digit.
-use mathlib.Core.Path.{_≡_, refl, sym, ap, _∙_}
+use mathlib.Core.Path.{_≡_, sym, ap, _∙_}
 use mathlib.Core.Logic.{⊎-elim, _⊎_, inl, inr}
-use mathlib.Core.List.{List, [], _∷_, _++_}
-use Prim.Native.Nat.{ℕ, zero, suc, _+_, _*_, _-_, _≤_, _<_}
+use mathlib.Core.List.{List, _∷_, _++_}
+use Prim.Native.Nat.{ℕ, suc, _+_, _*_, _-_, _≤_, _<_}
 use native.Mathlib.Nat.{add-zero}
 use native.Mathlib.Numerals.{add-one}
 use native.Mathlib.Omega.{arith}
 use lib.Dec.{ltb}
 use lib.ListN.{length, getD, take, drop, take-append-drop, drop-of-length-le}
-use lib.Seq.{take-suc, take-all, take-length, length-take-le, getD-take, getD-drop}
+use lib.Seq.{take-suc, take-all, length-take-le, getD-take, getD-drop}
 use borrow.Author.Tests.{ltb-true, ltb-false}
 use Rattle.board.proofs.Lists.{way}
 use Rattle.text.specs.Text.{decimal}
 use Rattle.drawing.specs.Form.{lastNumber}
 use Rattle.drawing.specs.Inner.{Common, Digit, Counted}
-use Rattle.drawing.specs.declared.number.Number.{Number}
 use Rattle.drawing.proofs.Laws.Decimal.{decimal-one, decimal-more}
 
 -- a word and a text that have the same first i bytes

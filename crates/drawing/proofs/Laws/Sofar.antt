@@ -3,19 +3,19 @@ use mathlib.Core.Path.{_≡_, refl, sym, ap, _∙_}
 use mathlib.Core.Logic.{⊎-elim, _⊎_, inl, inr}
 use mathlib.Core.Bool.{true, false, cond}
 use mathlib.Core.List.{List, [], _∷_, _++_, append-assoc, append-nil}
-use Prim.Native.Nat.{ℕ, zero, suc, _+_, _-_, _≤_, _<_}
-use native.Mathlib.Nat.{add-suc, suc-add, add-zero, zero-add}
+use Prim.Native.Nat.{ℕ, suc, _+_, _-_, _≤_, _<_}
+use native.Mathlib.Nat.{add-suc, suc-add, add-zero}
 use native.Mathlib.Omega.{arith}
 use lib.Dec.{eqb, ltb}
-use lib.ListN.{length, getD, take, drop, length-append, length-drop, List·getD-append}
-use lib.Seq.{take-all, take-length, drop-length, take-append-le, drop-append-le, getD-append-seam}
-use borrow.Author.Tests.{ltb-true, ltb-false, eqb-true, eqb-false, ne-eqb}
+use lib.ListN.{length, getD, drop, length-append, length-drop, List·getD-append}
+use lib.Seq.{take-length, drop-length, take-append-le, drop-append-le, getD-append-seam}
+use borrow.Author.Tests.{ltb-true, ltb-false, ne-eqb}
 use Rattle.board.specs.Lists.{_among_}
-use Rattle.board.specs.Board.{Record, Board, recordOf, leading, inputs}
+use Rattle.board.specs.Board.{Record, Board, leading, inputs}
 use Rattle.board.proofs.Lists.{way}
 use Rattle.text.specs.Text.{each}
-use Rattle.drawing.specs.Form.{inputText, outputText, gateText, linesText, textOf, lastNumber, Worded, Drawn}
-use Rattle.drawing.specs.Inner.{Statement, input, output, gate, section, Sound, an-input, an-output, a-gate, statementText, bare, add, Sofar}
+use Rattle.drawing.specs.Form.{inputText, outputText, gateText, linesText, textOf, lastNumber, Worded}
+use Rattle.drawing.specs.Inner.{input, output, gate, a-gate, bare, add, Sofar}
 use Rattle.drawing.proofs.Laws.WriteText.{leading-few}
 
 -- texts of one line more, and of one output more

@@ -1,6 +1,6 @@
 -- Where the reader stands: the board that was read so far, and what may follow. One statement more, the end, and where a text departs.
 use mathlib.Core.Path.{_≡_, refl, sym, ap, _∙_}
-use mathlib.Core.List.{List, [], _∷_, _++_, append-cancel-left}
+use mathlib.Core.List.{List, [], _++_, append-cancel-left}
 use Prim.Native.Nat.{ℕ, suc, _+_, _≤_, _<_}
 use native.Mathlib.Nat.{add-suc}
 use native.Mathlib.Omega.{arith}

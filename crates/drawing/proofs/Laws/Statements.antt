@@ -1,21 +1,17 @@
 -- Statements from pieces and numbers, and where those that may follow stop going along with a text.
 use mathlib.Core.Path.{_≡_, refl, sym, ap, _∙_}
 use mathlib.Core.Logic.{⊎-elim, _⊎_, inl, inr}
-use mathlib.Core.Bool.{true, false, _||_}
 use mathlib.Core.List.{List, [], _∷_, _++_, append-assoc, append-nil}
 use Prim.Native.Nat.{ℕ, zero, suc, _+_, _-_, _≤_, _<_}
 use native.Mathlib.Omega.{arith}
-use lib.Dec.{T, ltb, eqb, lit≤, lit<}
-use lib.ListN.{length, getD, take, drop, replicate, length-append, length-drop}
-use lib.Seq.{drop-drop}
-use borrow.Author.Tests.{eqb-true, eqb-false, lt-ltb}
+use lib.Dec.{lit≤, lit<}
+use lib.ListN.{length, getD, drop}
+use borrow.Author.Tests.{lt-ltb}
 use Rattle.board.specs.Lists.{text, same, _among_}
 use Rattle.board.specs.Board.{Record}
-use Rattle.board.specs.Limits.{lastKind}
-use Rattle.board.proofs.Lists.{way, same-is}
-use Rattle.text.specs.Text.{decimal, each, form}
-use Rattle.drawing.specs.Form.{words, inputText, outputText, pinsText, gateText, lastNumber, Worded}
-use Rattle.drawing.specs.Inner.{pieceForms, pieceCount, piece, Stops, NoPiece, Chosen, PieceThen, NumberThen, pinsTo, Pins, pinsRest, GateRest, Statement, input, output, gate, section, Sound, an-input, an-output, a-gate, statementText, Statements}
+use Rattle.text.specs.Text.{decimal, each}
+use Rattle.drawing.specs.Form.{outputText, gateText, lastNumber, Worded}
+use Rattle.drawing.specs.Inner.{pieceForms, pieceCount, piece, Stops, NoPiece, Chosen, PieceThen, pinsTo, Pins, pinsRest, GateRest, input, output, gate, an-input, an-output, a-gate, Statements}
 use Rattle.drawing.specs.declared.choose.Choice.the-variants.{Took}
 use Rattle.drawing.proofs.Laws.WriteGate.{nextPin, word-piece, input-text, output-text, gate-text}
 use Rattle.drawing.proofs.Laws.Stops.{stops-same, piece-stops, piece-behind}

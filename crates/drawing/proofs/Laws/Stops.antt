@@ -1,16 +1,16 @@
 -- Where the texts of a set stop going along with a text: behind a piece, among pieces, and in a number.
 use mathlib.Core.Path.{_≡_, refl, sym, ap, _∙_}
 use mathlib.Core.Logic.{⊎-elim, _⊎_, inl, inr}
-use mathlib.Core.Bool.{Bool, true, false, not, cond, _&&_, _||_}
+use mathlib.Core.Bool.{Bool, true, false, cond, _||_}
 use mathlib.Core.List.{List, [], _∷_, _++_, append-assoc, append-cancel-left}
-use Prim.Native.Nat.{ℕ, zero, suc, _+_, _*_, _-_, _≤_, _<_}
+use Prim.Native.Nat.{ℕ, zero, suc, _+_, _-_, _≤_, _<_}
 use native.Mathlib.Nat.{not-suc-le-zero, le-of-suc-le-suc, zero-add, add-suc, suc-add}
 use native.Mathlib.Omega.{arith}
 use lib.Dec.{T, eqb, lit≤, lit<}
-use lib.ListN.{length, getD, take, drop, length-append, length-take}
+use lib.ListN.{length, getD, take, length-append, length-take}
 use lib.Seq.{take-take, take-append-le, take-append-add, length-take-le}
 use borrow.Author.Tests.{eqb-true, eqb-false, ne-eqb}
-use Rattle.board.proofs.Lists.{way, clash, or-true}
+use Rattle.board.proofs.Lists.{way, clash}
 use Rattle.text.specs.Text.{spelled, decimal, gap}
 use Rattle.drawing.specs.Form.{lastNumber}
 use Rattle.drawing.specs.Inner.{pieceForms, pieceCount, piece, Stops, NoPiece, Digit, Ends, PieceThen, NumberThen}

@@ -13,8 +13,6 @@ use Rattle.image.specs.Refusals.{outside}
 use Rattle.drawing.proofs.Laws.ReadCall.{counts-refused, image-kept, image-owed}
 use Rattle.drawing.proofs.put_board.Statement.{statement}
 use Rattle.drawing.proofs.put_board.Tie as tie
-use Rattle.drawing.proofs.put_board.Reads as reads
-use Rattle.drawing.proofs.put_board.Lts as lts
 
 returns : tie.Need-returns
 returns c =

@@ -7,8 +7,6 @@ use borrow.Author.Needs.{needs}
 use Rattle.drawing.proofs.Laws.Tried.{Tried, tried-none, tried-more, tried-all, of-piece, long-is, took}
 use Rattle.drawing.proofs.choose.choose.Statement.{statement}
 use Rattle.drawing.proofs.choose.choose.Tie as tie
-use Rattle.drawing.proofs.choose.choose.Reads as reads
-use Rattle.drawing.proofs.choose.choose.Lts as lts
 
 abbrev Inv-loop : tie.InvT-loop
 Inv-loop rest from to k best₀ which₀ best which = (from ≤ which) × (which ≤ to) × Tried from to k rest best which

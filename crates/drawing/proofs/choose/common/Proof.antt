@@ -7,8 +7,6 @@ use borrow.Author.Needs.{needs}
 use Rattle.drawing.proofs.Laws.Reading.{common-more, common-over, common-differs, common-whole}
 use Rattle.drawing.proofs.choose.common.Statement.{statement}
 use Rattle.drawing.proofs.choose.common.Tie as tie
-use Rattle.drawing.proofs.choose.common.Reads as reads
-use Rattle.drawing.proofs.choose.common.Lts as lts
 
 abbrev Inv-loop : tie.InvT-loop
 Inv-loop rest word i₀ i = (i ≤ length rest) × (i ≤ length word) × (take i word ≡ take i rest)

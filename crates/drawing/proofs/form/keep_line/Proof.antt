@@ -1,14 +1,9 @@
 -- `drawing::form::keep_line` meets its contract: each sort of statement is kept where its sort is, and counted.
-use mathlib.Core.Path.{_≡_, refl}
+use mathlib.Core.Path.{refl}
 use borrow.Author.Needs.{needs}
-use Rattle.drawing.specs.Inner.{Storable}
 use Rattle.drawing.proofs.Laws.Kept.{keeps-input, keeps-gate, keeps-output}
 use Rattle.drawing.proofs.form.keep_line.Statement.{statement}
 use Rattle.drawing.proofs.form.keep_line.Tie as tie
-use Rattle.drawing.proofs.form.keep_line.Reads as reads
-use Rattle.drawing.proofs.form.keep_line.Lts as lts
-use Rattle.drawing.proofs.stored.keep_output.Reads as keep-output-reads
-use Rattle.drawing.proofs.stored.keep_record.Reads as keep-record-reads
 
 keep-output-requires : tie.Need-keep-output-requires
 keep-output-requires c κs =

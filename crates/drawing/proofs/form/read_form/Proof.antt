@@ -1,5 +1,5 @@
 -- `drawing::form::read_form` meets its contract: the reader stands behind a board's text, and one statement more is that board with one more.
-use mathlib.Core.Path.{_≡_, refl, sym, ap, _∙_}
+use mathlib.Core.Path.{_≡_, refl, _∙_}
 use mathlib.Core.Logic.{⊎-elim}
 use mathlib.Core.List.{List, [], _∷_}
 use Prim.Native.Nat.{ℕ, _-_}
@@ -11,21 +11,14 @@ use denote.Enum.Declared.{tagOf}
 use Rattle.board.specs.Board.{Board}
 use Rattle.text.specs.Text.{each}
 use Rattle.drawing.specs.Image.{linesBytes}
-use Rattle.drawing.specs.Inner.{imageRoom, outputsRoom, Kept, Holds, Lined, Begins, Stops, Statement, input, output, gate, Statements, add, ToldBy, lengthOf, tallied}
-use Rattle.drawing.specs.declared.form.Tally.{Tally}
+use Rattle.drawing.specs.Inner.{imageRoom, outputsRoom, Kept, Lined, Begins, Stops, Statement, input, output, gate, Statements, add, ToldBy, lengthOf}
 use Rattle.drawing.specs.declared.line.Line.{Line}
 use Rattle.drawing.specs.declared.line.Line.the-variants.{Input, Output, Gate, LineStop}
 use Rattle.drawing.proofs.line.Line.{the-type}
-use Rattle.drawing.proofs.Laws.Stands.{Stands, stands-first, stands-end, stands-stop, stands-more, told-more}
+use Rattle.drawing.proofs.Laws.Stands.{Stands, stands-first, stands-end, stands-stop, told-more}
 use Rattle.drawing.proofs.Laws.Kept.{lined-storable}
 use Rattle.drawing.proofs.form.read_form.Statement.{statement}
 use Rattle.drawing.proofs.form.read_form.Tie as tie
-use Rattle.drawing.proofs.form.read_form.Reads as reads
-use Rattle.drawing.proofs.form.read_form.Lts as lts
-use Rattle.drawing.proofs.form.keep_line.Reads as keep-line-reads
-use Rattle.drawing.proofs.form.length_of.Reads as length-of-reads
-use Rattle.drawing.proofs.line.read_line.Reads as read-line-reads
-use Rattle.image.proofs.numbers.tail.Reads as tail-reads
 
 abbrev Inv-loop : tie.InvT-loop
 Inv-loop text records₀ outputs₀ tally₀ at₀ records outputs tally at =

@@ -11,8 +11,6 @@ use Rattle.drawing.proofs.Laws.Statements.{word-stops}
 use Rattle.drawing.proofs.Laws.Lines.{word-inside, word-stop, gate-read}
 use Rattle.drawing.proofs.line.gate_at.Statement.{statement}
 use Rattle.drawing.proofs.line.gate_at.Tie as tie
-use Rattle.drawing.proofs.line.gate_at.Reads as reads
-use Rattle.drawing.proofs.line.gate_at.Lts as lts
 
 no-word : (x : tie.After-m) → let a = x .before .before .before .before .before .args in NoPiece 5 pieceCount 0 (drop (a .at) (a .rest .now)) (x .m .given .0 .0)
 no-word x = rw (x .before .before .before .tail .ensures) at (rw (x .m .given .1) at (x .before .before .choose .ensures))

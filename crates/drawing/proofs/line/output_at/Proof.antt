@@ -8,8 +8,6 @@ use Rattle.drawing.specs.declared.pins.PinFound.the-variants.{Last}
 use Rattle.drawing.proofs.Laws.Lines.{output-read}
 use Rattle.drawing.proofs.line.output_at.Statement.{statement}
 use Rattle.drawing.proofs.line.output_at.Tie as tie
-use Rattle.drawing.proofs.line.output_at.Reads as reads
-use Rattle.drawing.proofs.line.output_at.Lts as lts
 
 stopped : (x : tie.After-m) → let a = x .before .before .before .before .before .args in Stops (Pins 1) (drop (a .at) (a .rest .now)) (x .m .given .0 .0)
 stopped x = rw (x .before .before .before .tail .ensures) at (rw (x .m .given .1) at (x .before .before .read-pin .ensures))

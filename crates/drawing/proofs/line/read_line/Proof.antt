@@ -2,14 +2,12 @@
 use mathlib.Core.Path.{_≡_}
 use native.Mathlib.Omega.{arith}
 use borrow.Author.Needs.{needs}
-use Rattle.drawing.specs.Inner.{NoPiece, Chosen}
+use Rattle.drawing.specs.Inner.{Chosen}
 use Rattle.drawing.specs.declared.choose.Choice.the-variants.{Took}
 use Rattle.drawing.proofs.Laws.Statements.{line-stops}
 use Rattle.drawing.proofs.Laws.Lines.{input-lined, output-lined, gate-lined}
 use Rattle.drawing.proofs.line.read_line.Statement.{statement}
 use Rattle.drawing.proofs.line.read_line.Tie as tie
-use Rattle.drawing.proofs.line.read_line.Reads as reads
-use Rattle.drawing.proofs.line.read_line.Lts as lts
 
 chosen : (x : tie.After-which) → let a = x .before .before .before .before .args in
     Chosen (a .section) 3 (a .k) (a .rest .now) (Took (x .which .given .0 .0) (x .which .given .0 .1 .0))

@@ -12,9 +12,6 @@ use Rattle.board.proofs.Lists.{clash, and-true}
 use Rattle.drawing.proofs.Laws.Reading.{Sofar, number-more, counted, head-at, at-end}
 use Rattle.drawing.proofs.number.read_number.Statement.{statement}
 use Rattle.drawing.proofs.number.read_number.Tie as tie
-use Rattle.drawing.proofs.number.read_number.Reads as reads
-use Rattle.drawing.proofs.number.read_number.Lts as lts
-use Rattle.drawing.proofs.number.digit.Reads as digit-reads
 
 abbrev Inv-loop : tie.InvT-loop
 Inv-loop rest value₀ i₀ value i = (i ≤ length rest) × Sofar rest value i

@@ -4,8 +4,6 @@ use Rattle.drawing.specs.Inner.{piece}
 use Rattle.drawing.proofs.Laws.Pieces.{cut-is}
 use Rattle.drawing.proofs.pieces.put_piece.Statement.{statement}
 use Rattle.drawing.proofs.pieces.put_piece.Tie as tie
-use Rattle.drawing.proofs.pieces.put_piece.Reads as reads
-use Rattle.drawing.proofs.pieces.put_piece.Lts as lts
 
 returns : tie.Need-returns
 unfolding piece

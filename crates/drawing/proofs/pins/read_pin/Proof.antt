@@ -8,8 +8,6 @@ use Rattle.drawing.specs.declared.choose.Choice.the-variants.{Took}
 use Rattle.drawing.proofs.Laws.Pins.{pins-to, pin-none, pin-stops, pin-on, pin-is}
 use Rattle.drawing.proofs.pins.read_pin.Statement.{statement}
 use Rattle.drawing.proofs.pins.read_pin.Tie as tie
-use Rattle.drawing.proofs.pins.read_pin.Reads as reads
-use Rattle.drawing.proofs.pins.read_pin.Lts as lts
 
 returns : tie.Need-returns
 returns c =
