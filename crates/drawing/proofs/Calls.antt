@@ -16,7 +16,7 @@ use Rattle.image.specs.Promise.{numbers, Owes}
 use Rattle.image.specs.declared.Refusal.{Refusal}
 use Rattle.image.specs.declared.Refusal.the-variants.{Counts, Record, Output, Form, Target}
 use Rattle.image.proofs.Laws.Answer.{after-none, none-both}
-use Rattle.image.proofs.Laws.Promise.{pinned}
+use Rattle.image.proofs.Laws.Promise.{unrefused, pinned}
 use Rattle.drawing.specs.Form.{textOf}
 use Rattle.drawing.specs.Image.{imageOf, withoutNote}
 use Rattle.drawing.specs.Calls.{Reading, names, departs, ByReading, madeSays, inFront, tooShort, miscounts, readRefusals, writeRefusals, readPromise, writePromise}
@@ -27,7 +27,7 @@ use Rattle.drawing.proofs.Laws.ImageBytes.{image-refusals, image-board}
 use Rattle.drawing.proofs.Laws.ImageAgain.{Bytes, image-again}
 use Rattle.drawing.proofs.Laws.ImageAccepted.{counts-good, again-accepted}
 use Rattle.drawing.proofs.Laws.Settled.{reads-one, read-alike}
-use Rattle.drawing.proofs.Laws.RoundTrip.{unrefused, first-none-both, none-first, never-none, long-enough, both, leaves, first-bytes}
+use Rattle.drawing.proofs.Laws.RoundTrip.{first-none-both, none-first, never-none, long-enough, both, leaves, first-bytes}
 
 -- of a record, an output or the target
 board-refused : (bad out : Option ℕ) (short : Bool) (r : Refusal)

@@ -1,27 +1,17 @@
--- What a call that was not refused leaves, for the round trip: where no refusal applies, and what stands in front of a target.
+-- What a call that was not refused leaves, for the round trip: what stands in front of a target.
 use mathlib.Core.Path.{_≡_, refl, ap}
 use mathlib.Core.Option.{Option, none, some}
 use mathlib.Core.List.{List, [], _∷_}
 use Prim.Native.Nat.{ℕ, _≤_}
-use native.Mathlib.Nat.{not-suc-le-zero}
 use native.Mathlib.Omega.{arith}
 use lib.ListN.{length, take, drop, length-append}
 use lib.Seq.{take-append-seam}
 use borrow.Author.Tests.{le-ltb}
 use Rattle.image.specs.Refusals.{firstRefusal}
-use Rattle.image.specs.Promise.{answer, Promise, Owes}
+use Rattle.image.specs.Promise.{Owes}
 use Rattle.image.specs.declared.Refusal.{Refusal}
-use Rattle.image.proofs.Laws.Promise.{number-over, done-leaves, done-says}
+use Rattle.image.proofs.Laws.Promise.{done-leaves, done-says, unrefused}
 use Rattle.drawing.specs.Calls.{making, tooShort, inFront}
-
--- what begins with 0 is said only where no refusal applies
-pub unrefused : {p : Promise} {left : List (List ℕ)} {said : List ℕ} → Owes p left (0 ∷ said) → firstRefusal (p .refusals) ≡ none
-unrefused {p} {left} {said} owes =
-    go (firstRefusal (p .refusals)) (owes .answers)
-  where
-    go : (o : Option Refusal) → 0 ∷ said ≡ answer o (p .done) → o ≡ none
-    go none e = refl
-    go (some r) e = absurd (not-suc-le-zero (rw (← e) at (number-over r)))
 
 -- the first of some refusals, and the others
 pub first-none-both : (o : Option Refusal) (rs : List (Option Refusal)) → firstRefusal (o ∷ rs) ≡ none → (o ≡ none) × (firstRefusal rs ≡ none)

@@ -1,19 +1,17 @@
 -- The answer of the five values is told by its numbers; what the filler has where no refusal applies; and what a count tells.
 use mathlib.Core.Path.{_≡_, refl}
-use mathlib.Core.Option.{Option, none, some}
+use mathlib.Core.Option.{none}
 use mathlib.Core.List.{List, [], _∷_}
 use Prim.Native.Nat.{ℕ}
-use native.Mathlib.Nat.{not-suc-le-zero}
 use lib.ListN.{length, getD}
 use Rattle.board.specs.declared.Fault.{Fault}
 use Rattle.board.specs.declared.Condition.the-variants.{Having}
 use Rattle.image.specs.Image.{boardOf}
 use Rattle.image.specs.Refusals.{firstRefusal}
-use Rattle.image.specs.Promise.{answer, Promise, Owes}
+use Rattle.image.specs.Promise.{answer, Owes}
 use Rattle.image.specs.Calls.{_then_, badRow, faultRefusals}
-use Rattle.image.specs.declared.Refusal.{Refusal}
 use Rattle.image.proofs.Laws.Answer.{none-both}
-use Rattle.image.proofs.Laws.Promise.{read-back, refused-again, number-over, Told, told, done-leaves, done-says}
+use Rattle.image.proofs.Laws.Promise.{read-back, refused-again, Told, told, done-leaves, done-says, unrefused}
 use Rattle.image.proofs.Laws.Calls.{fault-accepted, row-long}
 use Rattle.five.specs.Partial.{badPartial}
 use Rattle.five.specs.Driven.{driven}
@@ -33,15 +31,6 @@ driven-again (Refused r) = refused-again _ Refused r
 
 pub driven-told : Told drivenSays
 driven-told = told drivenSays driven-back driven-again
-
--- what begins with 0 is said only where no refusal applies
-unrefused : {p : Promise} {left : List (List ℕ)} {said : List ℕ} → Owes p left (0 ∷ said) → firstRefusal (p .refusals) ≡ none
-unrefused {p} {left} {said} owes =
-    go (firstRefusal (p .refusals)) (owes .answers)
-  where
-    go : (o : Option Refusal) → 0 ∷ said ≡ answer o (p .done) → o ≡ none
-    go none e = refl
-    go (some r) e = absurd (not-suc-le-zero (rw (← e) at (number-over r)))
 
 module _ (s : List ℕ) (named values : ℕ) (φ : Fault) (old : List ℕ) where
   -- where none applies, the filler has what it asks

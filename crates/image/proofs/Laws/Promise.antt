@@ -1,12 +1,13 @@
 -- What a promise settles: a refusal is told by its numbers and no answer has one's, so any two outcomes that a promise allows are equal.
 use mathlib.Core.Path.{_≡_, refl, sym, ap, _∙_}
-use mathlib.Core.Option.{none, some}
+use mathlib.Core.Option.{Option, none, some}
 use mathlib.Core.List.{List, [], _∷_}
 use Prim.Native.Nat.{ℕ, _<_}
+use native.Mathlib.Nat.{not-suc-le-zero}
 use lib.Dec.{lit<}
 use lib.ListN.{getD}
 use Rattle.image.specs.Refusals.{firstRefusal}
-use Rattle.image.specs.Promise.{numbers, Promise, Owes}
+use Rattle.image.specs.Promise.{numbers, answer, Promise, Owes}
 use Rattle.image.specs.declared.Refusal.{Refusal}
 use Rattle.image.specs.declared.Refusal.the-variants.{Mark, Counts, Distance, Record, Output, Line, Stuck, Pattern, Lent, Alteration, Row, Pin, Form, Target}
 
@@ -89,6 +90,15 @@ module _ {p : Promise} {left : List (List ℕ)} {said : List ℕ} (owes : Owes p
 
   pub done-says : said ≡ 0 ∷ p .done
   done-says = rw none-given at (owes .answers)
+
+-- what begins with 0 is said only where no refusal applies
+pub unrefused : {p : Promise} {left : List (List ℕ)} {said : List ℕ} → Owes p left (0 ∷ said) → firstRefusal (p .refusals) ≡ none
+unrefused {p} {left} {said} owes =
+    go (firstRefusal (p .refusals)) (owes .answers)
+  where
+    go : (o : Option Refusal) → 0 ∷ said ≡ answer o (p .done) → o ≡ none
+    go none e = refl
+    go (some r) e = absurd (not-suc-le-zero (rw (← e) at (number-over r)))
 
 -- any two outcomes that a promise allows are equal: the answer, and all that was lent
 pub pinned : {A : Type 0} {says : A → List ℕ} → Told says → (p : Promise) (a b : A) (left later : List (List ℕ)) → Owes p left (says a) → Owes p later (says b)
