@@ -24,10 +24,9 @@ use Rattle.find.specs.Book.{bookRefusals, bookPromise}
 use Rattle.alter.specs.Alter.{Books, both, alterRefusals, alterPromise, Calls}
 use Rattle.alter.proofs.Laws.Runs.{by-sort}
 use Rattle.drawing.specs.Form.{Departs}
-use Rattle.drawing.specs.Image.{withoutNote}
+use Rattle.drawing.specs.Image.{withoutNote, AllBytes}
 use Rattle.drawing.specs.Calls.{madeSays, inFront, ByReading, readPromise, writePromise}
 use Rattle.drawing.specs.declared.Made.{Made}
-use Rattle.drawing.proofs.Laws.ImageAgain.{Bytes}
 use Rattle.drawing.proofs.Laws.Settled.{departs-one}
 use Rattle.drawing.proofs.Calls.{read-pinned, write-read, read-write}
 use Rattle.demands.specs.Demands.{Call, TurnsAway, DifferSomewhere, SmallestTest, Has, entryOf, WholeBook, shownIn, BroughtUp}
@@ -91,7 +90,7 @@ pub reading-settled : (t target : List ℕ) (a b : Made) (left later : List (Lis
     → ByReading t (λ is. Owes (readPromise is target) later (madeSays b)) → (a ≡ b) × (left ≡ later)
 reading-settled = read-pinned
 
-pub written-read : (s target after : List ℕ) (n : ℕ) → Bytes s → Owes (writePromise s target) (after ∷ []) (0 ∷ n ∷ [])
+pub written-read : (s target after : List ℕ) (n : ℕ) → AllBytes s → Owes (writePromise s target) (after ∷ []) (0 ∷ n ∷ [])
     → (room left said : List ℕ) → length (withoutNote s) ≤ length room → ByReading (take n after) (λ is. Owes (readPromise is room) (left ∷ []) said)
     → (left ≡ inFront (withoutNote s) room) × (said ≡ 0 ∷ length (withoutNote s) ∷ [])
 written-read = write-read

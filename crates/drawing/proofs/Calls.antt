@@ -18,13 +18,13 @@ use Rattle.image.specs.declared.Refusal.the-variants.{Counts, Record, Output, F
 use Rattle.image.proofs.Laws.Answer.{after-none, none-both}
 use Rattle.image.proofs.Laws.Promise.{unrefused, pinned}
 use Rattle.drawing.specs.Form.{textOf}
-use Rattle.drawing.specs.Image.{imageOf, withoutNote}
+use Rattle.drawing.specs.Image.{imageOf, withoutNote, AllBytes}
 use Rattle.drawing.specs.Calls.{Reading, names, departs, ByReading, madeSays, inFront, tooShort, miscounts, readRefusals, writeRefusals, readPromise, writePromise}
 use Rattle.drawing.proofs.Laws.ImageDrawn.{accepted-drawn}
 use Rattle.drawing.specs.declared.Made.{Made}
 use Rattle.drawing.proofs.Laws.WriteCall.{made-told}
 use Rattle.drawing.proofs.Laws.ImageBytes.{image-refusals, image-board}
-use Rattle.drawing.proofs.Laws.ImageAgain.{Bytes, image-again}
+use Rattle.drawing.proofs.Laws.ImageAgain.{image-again}
 use Rattle.drawing.proofs.Laws.ImageAccepted.{counts-good, again-accepted}
 use Rattle.drawing.proofs.Laws.Settled.{reads-one, read-alike}
 use Rattle.drawing.proofs.Laws.RoundTrip.{first-none-both, none-first, never-none, long-enough, both, leaves, first-bytes}
@@ -62,7 +62,7 @@ read-numbers (names b) target r e =
 
 -- s is written into a target, which is then `after`, and n is the length returned. Whatever the reader makes of those n bytes, with room for the
 -- image, is the image without its note
-pub write-read : (s target after : List ℕ) (n : ℕ) → Bytes s → Owes (writePromise s target) (after ∷ []) (0 ∷ n ∷ [])
+pub write-read : (s target after : List ℕ) (n : ℕ) → AllBytes s → Owes (writePromise s target) (after ∷ []) (0 ∷ n ∷ [])
     → (room left heard : List ℕ) → length (withoutNote s) ≤ length room → ByReading (take n after) (λ is. Owes (readPromise is room) (left ∷ []) heard)
     → (left ≡ inFront (withoutNote s) room) × (heard ≡ 0 ∷ length (withoutNote s) ∷ [])
 unfolding writeRefusals readRefusals

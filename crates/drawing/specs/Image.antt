@@ -1,7 +1,7 @@
 -- The image of a board, without a note.
 use mathlib.Core.List.{List, [], _∷_, _++_}
-use Prim.Native.Nat.{ℕ, _/_, _%_, _-_}
-use lib.ListN.{length, take, drop, replicate}
+use Prim.Native.Nat.{ℕ, _/_, _%_, _-_, _<_}
+use lib.ListN.{length, getD, take, drop, replicate}
 use Rattle.board.specs.Board.{Record, Board}
 use Rattle.image.specs.Image.{theMark, fullDistance, distance}
 use Rattle.text.specs.Text.{each}
@@ -32,3 +32,7 @@ imageOf b = linesBytes (b .lines) ++ each wordBytes (b .outs) ++ trailerBytes (l
 -- an image without its note
 abbrev pub withoutNote : List ℕ → List ℕ
 withoutNote s = drop (length s - distance s) s
+
+-- bytes: numbers below 256
+abbrev pub AllBytes : List ℕ → Type 0
+AllBytes s = (i : ℕ) → getD s i 0 < 256

@@ -19,8 +19,8 @@ use Rattle.image.proofs.Laws.Fine.{passed, line-count, output-count}
 use Rattle.image.proofs.Laws.Check.{accepted}
 use Rattle.drawing.specs.Calls.{miscounts}
 use Rattle.drawing.proofs.Laws.ImageBytes.{made, image-lines, image-outputs, image-first, image-marked, image-counted, image-placed}
-use Rattle.drawing.specs.Image.{imageOf}
-use Rattle.drawing.proofs.Laws.ImageAgain.{Bytes, image-again}
+use Rattle.drawing.specs.Image.{imageOf, AllBytes}
+use Rattle.drawing.proofs.Laws.ImageAgain.{image-again}
 
 -- bytes from a place on, read from there
 module _ (s : List ℕ) (q : ℕ) where
@@ -64,7 +64,7 @@ pub counts-good : (s : List ℕ) → Accepted s → miscounts (boardOf s) ≡ no
 counts-good s ok = rw (line-count s, output-count s, passed s ok .counted)
 
 -- an accepted image
-module _ (s : List ℕ) (small : Bytes s) (ok : Accepted s) where
+module _ (s : List ℕ) (small : AllBytes s) (ok : Accepted s) where
   abbrev first : ℕ
   first = firstRecord s
 

@@ -19,7 +19,7 @@ use Rattle.image.proofs.Laws.Fine.{passed, field-good, four-pins, line-count, o
 use Rattle.image.proofs.Laws.Records.{pin-field}
 use Rattle.text.specs.Text.{each}
 use Rattle.drawing.proofs.Laws.Sofar.{each-end}
-use Rattle.drawing.specs.Image.{wordBytes, longBytes, recordBytes, linesBytes, trailerBytes, imageOf, withoutNote}
+use Rattle.drawing.specs.Image.{wordBytes, longBytes, recordBytes, linesBytes, trailerBytes, imageOf, withoutNote, AllBytes}
 
 long-split : (w v : ℕ) → w < 65_536 → longBytes (w + 65_536 * v) ≡ wordBytes w ++ wordBytes v
 long-split w v few =
@@ -30,11 +30,7 @@ long-split w v few =
 four-same : {a b c d a' b' c' d' : List ℕ} → a ≡ a' → b ≡ b' → c ≡ c' → d ≡ d' → a ++ b ++ c ++ d ≡ a' ++ b' ++ c' ++ d'
 four-same p q r t = cc
 
--- bytes that are numbers below 256
-abbrev pub Bytes : List ℕ → Type 0
-Bytes s = (i : ℕ) → getD s i 0 < 256
-
-module _ (s : List ℕ) (small : Bytes s) where
+module _ (s : List ℕ) (small : AllBytes s) where
   -- the bytes of the numbers read are the bytes that stand there
   word-bytes : (q : ℕ) → q + 2 ≤ length s → wordBytes (wordAt s q) ≡ take 2 (drop q s)
   word-bytes q h =
@@ -134,7 +130,7 @@ module _ (s : List ℕ) (small : Bytes s) where
       (ap (λ (l : List ℕ). take (10 * n) (drop p s) ++ l) (sym (drop-drop (10 * n) p s)) ∙ take-append-drop (10 * n) (drop p s))
 
 -- an accepted image
-module _ (s : List ℕ) (small : Bytes s) (ok : Accepted s) where
+module _ (s : List ℕ) (small : AllBytes s) (ok : Accepted s) where
   abbrev first : ℕ
   first = firstRecord s
 
