@@ -3,10 +3,10 @@ use mathlib.Core.Path.{_≡_}
 use mathlib.Core.Option.{Option, none, some}
 use mathlib.Core.List.{List}
 use mathlib.Core.Bool.{Bool, true, false, cond}
-use Prim.Native.Nat.{ℕ, _+_, _*_, _≤_, _<_}
+use Prim.Native.Nat.{ℕ, _+_, _*_, _^_, _≤_, _<_}
 use lib.ListN.{length, getD}
 use Rattle.board.specs.Lists.{on, build}
-use Rattle.board.specs.Limits.{mostLines, noneMark}
+use Rattle.board.specs.Limits.{mostLines, mostInputs, noneMark}
 use Rattle.board.specs.Board.{Board}
 use Rattle.board.specs.Test.{shows, find}
 use Rattle.board.specs.Book.{faultAt, entry, found}
@@ -54,7 +54,7 @@ module _ (sort : Sort) where
 pub record Span (base end : ℕ) : Type 0 where
   pub some-left : base < end
   pub few : end ≤ base + 512
-  pub no-mark : end ≤ noneMark
+  pub bounded : end ≤ 2 ^ mostInputs
 
 -- an entry that was right for the patterns below m goes on to be right for those below n
 abbrev pub Goes : (ℕ → Bool) → ℕ → ℕ → ℕ → ℕ → Type 0
@@ -150,7 +150,7 @@ module _ (sort : Sort) (first : ℕ) where
   pub record Searchable (s flat : List ℕ) (limit : ℕ) (rows changed todo : List ℕ) (n : ℕ) : Type 0 where
     pub decoded : Flat (boardOf s) flat
     pub room : Roomy (boardOf s) rows
-    pub no-mark : limit ≤ noneMark
+    pub bounded : limit ≤ 2 ^ mostInputs
     pub changes : length changed ≡ size (boardOf s)
     pub wide : size (boardOf s) ≤ length todo
     pub part : Part s n

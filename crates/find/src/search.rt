@@ -13,7 +13,7 @@ use lanes::flat::decode;
 ghost use mathlib.Core.Path.{_≡_};
 ghost use Prim.Native.Nat.{ℕ, _+_, _*_, _^_, _≤_, _<_};
 ghost use lib.ListN.{length, getD};
-ghost use Rattle.board.specs.Limits.{mostLines, mostInputs, noneMark};
+ghost use Rattle.board.specs.Limits.{mostLines, mostInputs};
 ghost use Rattle.board.specs.Board.{inputs as inputsOf};
 ghost use Rattle.board.specs.Test.{find};
 ghost use Rattle.board.specs.Book.{faultAt};
@@ -31,7 +31,7 @@ pub enum Answer {
 // How many patterns a board with so many inputs has.
 fn patterns(inputs: usize) -> u64
     requires { ⌜ inputs ≤ mostInputs ⌝ }
-    ensures { λ r. ⌜ (r ≡ 2 ^ inputs) × (r ≤ noneMark) ⌝ }
+    ensures { λ r. ⌜ (r ≡ 2 ^ inputs) × (r ≤ 2 ^ mostInputs) ⌝ }
 {
     1 << inputs
 }

@@ -87,7 +87,7 @@ module _ (t : ℕ → Bool) (base : ℕ) (e : List ℕ) (holds : Lanes e t base)
     below-low : below t base ≡ noneMark → Below t (base + z)
     below-low is q l =
         ⊎-elim
-        (λ (f : ltb q base ≡ true). none-below t base (omega (arith, span .some-left, span .no-mark)) is q (ltb-true q base f))
+        (λ (f : ltb q base ≡ true). none-below t base (omega (arith, span .some-left, span .bounded)) is q (ltb-true q base f))
         (λ (f : ltb q base ≡ false). dark-to z (low .few) (low .dark) q (ltb-false q base f) l)
         (way (ltb q base))
 

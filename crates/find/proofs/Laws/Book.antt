@@ -148,7 +148,7 @@ unfolding find
 searched-one sort b k todo part after done some-entry blank marked =
     rw add-zero at (done .worked 0 some-entry (rw add-zero marked) blank)
 
-few-entries : (sort : Sort) (s : List ℕ) (n : ℕ) → Accepted s → ((k : ℕ) → k < n → OnBoard s (faultAt sort k)) → n ≤ 4096
+few-entries : (sort : Sort) (s : List ℕ) (n : ℕ) → Accepted s → ((k : ℕ) → k < n → OnBoard s (faultAt sort k)) → n ≤ 8 * mostLines
 few-entries sort s zero ok faults = omega arith
 few-entries Lines s (suc n) ok faults = omega (arith, faults n (le-refl (suc n)) .inside, lines-few s ok)
 few-entries Pins s (suc n) ok faults = omega (arith, faults n (le-refl (suc n)) .inside, lines-few s ok)

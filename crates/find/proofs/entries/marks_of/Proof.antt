@@ -3,6 +3,7 @@ use mathlib.Core.Path.{_≡_, sym, ap, _∙_}
 use Prim.Native.Nat.{_-_}
 use native.Mathlib.Omega.{arith}
 use lib.ListN.{getD}
+use Rattle.board.specs.Limits.{mostLines}
 use Rattle.board.specs.Lists.{on}
 use Rattle.board.proofs.Filling.{Storing, none-stored, one-stored}
 use Rattle.board.proofs.Reach.{on-bit}
@@ -14,7 +15,7 @@ abbrev Inv-loop : tie.InvT-loop
 Inv-loop marks row₀ l₀ row l = Storing (λ j m. on m ≡ on (getD marks j 0)) row₀ l row
 
 abbrev μ-loop : tie.MeasureT-loop
-μ-loop marks row₀ l₀ row l = 512 - l
+μ-loop marks row₀ l₀ row l = mostLines - l
 
 loop-holds : tie.Need-loop-holds Inv-loop μ-loop
 loop-holds c = none-stored _ _

@@ -45,7 +45,7 @@ try-block-requires c κs =
       room = room;
       number = number;
       base-is = is;
-      span = record { some-left = some-left ended; few = ended .smaller .ensures .0; no-mark = omega (arith, ended .smaller .ensures .1, asked .no-mark) };
+      span = record { some-left = some-left ended; few = ended .smaller .ensures .0; bounded = omega (arith, ended .smaller .ensures .1, asked .bounded) };
       changes = same ∙ asked .changes;
       wide = omega (arith, asked .wide, tried .wide);
       part = rw (tried .long) (asked .part);

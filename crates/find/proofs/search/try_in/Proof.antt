@@ -29,7 +29,7 @@ search-requires c κs =
     record {
       decoded = c .before .before .before .before .before .before .before .before .before .before .before .decode .ensures;
       room = c .before .before .before .before .before .before .before .make-room .ensures;
-      no-mark = c .before .before .before .before .before .before .before .before .before .before .before .before .before .patterns .ensures .1;
+      bounded = c .before .before .before .before .before .before .before .before .before .before .before .before .before .patterns .ensures .1;
       changes = start .pre .changes ∙ sym (line-count s);
       wide = omega (arith, line-count s, lines-few s (start .pre .known .ok), start .pre .wide);
       part = start .pre .part;

@@ -3,6 +3,7 @@ use mathlib.Core.Path.{_≡_, sym, ap, _∙_}
 use Prim.Native.Nat.{ℕ, _+_, _*_, _<_}
 use native.Mathlib.Omega.{arith}
 use borrow.Author.Needs.{needs}
+use Rattle.board.specs.Limits.{mostLines}
 use Rattle.board.specs.Gate.{heldLine}
 use Rattle.board.specs.Five.{hold5, partial}
 use Rattle.image.specs.Bytes.{byteAt}
@@ -14,7 +15,7 @@ use Rattle.five.proofs.line.line_value.Statement.{statement}
 use Rattle.five.proofs.line.line_value.Tie as tie
 
 -- there are few lines
-short : (c : tie.After-first-record) → c .before .before .before .before .args .i < 512
+short : (c : tie.After-first-record) → c .before .before .before .before .args .i < mostLines
 short c =
     let start = c .before .before .before .before in
     omega (arith, start .pre .1 .inside, lines-few (start .args .img .now) (start .pre .1 .ok))
