@@ -2,7 +2,6 @@
 use answers::book_answer;
 use board::Sort;
 use image::limits::Entry;
-use image::limits::WIDEST;
 use kept::lent_book::BookLengths;
 use kept::lent_book::lend_book;
 use ports::write::write_entries;
@@ -22,11 +21,7 @@ fn put_entry(place: u64, number: u64, book: &mut [Entry]) {
         write_plain(b"? past the end\n");
         return;
     }
-    if WIDEST < number {
-        write_plain(b"? wider than an entry\n");
-        return;
-    }
-    book[k] = number as Entry;
+    book[k] = number;
     write_plain(b"lent\n");
 }
 

@@ -47,7 +47,7 @@ fn note(
     }
     let own = own_words(img, flat, base, condition, rows);
     let at = base + lowest(all_of(own, seen));
-    if at < end { at as Entry } else { old }
+    if at < end { at } else { old }
 }
 
 // Whether an entry is none and its fault changes its line in a block.

@@ -39,7 +39,7 @@ pub fn find(img: &[u8], fault: Fault) -> Found
     match check_fault(img, fault) {
         Checked::Refused(r) => Found::Refused(r),
         Checked::Good(counts) => match smallest(img, counts, fault) {
-            Answer::At(p) => Found::Pattern(p as u64),
+            Answer::At(p) => Found::Pattern(p),
             Answer::Nothing => Found::Nothing,
         },
     }

@@ -106,7 +106,7 @@ fn fault_line(c: Condition, e: Entry, out: &mut [u8]) -> usize
             if e == NONE {
                 return spell(b"#/# none\n", &[line as u64, stuck as u64], out);
             }
-            spell(b"#/# #\n", &[line as u64, stuck as u64, e as u64], out)
+            spell(b"#/# #\n", &[line as u64, stuck as u64, e], out)
         }
         Fault::Pin { line, pin, stuck } => {
             if e == NONE {
@@ -118,7 +118,7 @@ fn fault_line(c: Condition, e: Entry, out: &mut [u8]) -> usize
             }
             spell(
                 b"#.#/# #\n",
-                &[line as u64, pin as u64, stuck as u64, e as u64],
+                &[line as u64, pin as u64, stuck as u64, e],
                 out,
             )
         }

@@ -14,7 +14,7 @@ pub fn numbers_text(numbers: &[Entry], out: &mut [u8]) -> usize
     let mut i = 0;
     while i < numbers.len() {
         out[at] = b' ';
-        at = put_number(numbers[i] as u64, out, at + 1);
+        at = put_number(numbers[i], out, at + 1);
         i += 1;
     }
     at

@@ -17,9 +17,6 @@ Inv-loop numbers out₀ at₀ i₀ out at i = (i ≤ length numbers) × (at ≤ 
 abbrev μ-loop : tie.MeasureT-loop
 μ-loop numbers out₀ at₀ i₀ out at i = length numbers - i
 
-cast-put-number : tie.Need-cast-put-number Inv-loop μ-loop
-cast-put-number c = omega (arith, c .shared-slice-known2 .given (c .before .before .loop .i))
-
 put-number-requires : tie.Need-put-number-requires Inv-loop μ-loop
 put-number-requires c κs =
     let at-loop = c .before .before .before in
@@ -48,5 +45,5 @@ returns c =
 pub numbers-text-spec : {M : Type 1} → statement M
 numbers-text-spec =
     tie.close
-    (tie.spec Inv-loop μ-loop (search needs) (search needs) (search needs) (search needs) cast-put-number (search needs) put-number-requires (search needs)
+    (tie.spec Inv-loop μ-loop (search needs) (search needs) (search needs) (search needs) (search needs) put-number-requires (search needs)
     (search needs) loop-again (search needs) returns)
