@@ -6,7 +6,7 @@ use mathlib.Core.Bool.{Bool, true, false, cond}
 use Prim.Native.Nat.{ℕ, _+_, _*_, _^_, _≤_, _<_}
 use lib.ListN.{length, getD}
 use Rattle.board.specs.Lists.{on, build}
-use Rattle.board.specs.Limits.{mostLines, mostInputs, noneMark}
+use Rattle.board.specs.Limits.{mostInputs, noneMark}
 use Rattle.board.specs.Board.{Board}
 use Rattle.board.specs.Test.{shows, find}
 use Rattle.board.specs.Book.{faultAt, entry, found}
@@ -49,6 +49,20 @@ module _ (sort : Sort) where
   pub record Renewed (s marks old : List ℕ) (r : ℕ) (after : List ℕ) : Type 0 where
     pub book : after ≡ reworked (boardOf s) marks old
     pub count : r ≡ found (reworked (boardOf s) marks old)
+
+-- the lines that a small board has at most
+abbrev pub fewLines : ℕ
+fewLines = 512
+
+-- a row in which the lines are marked that are marked in another
+pub record SameMarks (marks old new : List ℕ) : Type 0 where
+  pub long : length new ≡ length old
+  pub same : (l : ℕ) → l < length old → on (getD new l 0) ≡ on (getD marks l 0)
+
+-- rows that are long enough for a search on so many lines
+pub record Spacious (lines rows todo : ℕ) : Type 0 where
+  pub rows-long : 16 * lines + 16 ≤ rows
+  pub todo-long : lines ≤ todo
 
 -- the patterns of a block that are tried: from base up to an end
 pub record Span (base end : ℕ) : Type 0 where
@@ -161,7 +175,7 @@ module _ (sort : Sort) (first : ℕ) where
     pub flat-long : flat ≡ 8 * lineCount s
     pub rows-long : rows ≡ 16 * lineCount s + 16
     pub changes : changed ≡ lineCount s
-    pub wide : mostLines ≤ todo
+    pub wide : lineCount s ≤ todo
     pub part : Part s n
 
   -- what it leaves: an entry that was none of a line that was to do is the smallest pattern below a limit, and one of any other line is as before

@@ -10,7 +10,6 @@ use image::Counts;
 use image::Refusal;
 use image::asked::refused_if;
 use image::limits::Entry;
-use image::limits::MOST_LINES;
 use image::limits::NONE;
 use image::numbers::byte;
 ghost use mathlib.Core.Path.{_≡_};
@@ -20,7 +19,7 @@ ghost use mathlib.Core.List.{List};
 ghost use Prim.Native.Nat.{ℕ, _*_, _<_};
 ghost use lib.ListN.{length, getD};
 ghost use Rattle.board.specs.Lists.{somewhere, on};
-ghost use Rattle.board.specs.Limits.{mostLines, noneMark};
+ghost use Rattle.board.specs.Limits.{noneMark};
 ghost use Rattle.board.specs.Book.{entriesALine, found};
 ghost use Rattle.image.specs.Image.{lineCount};
 ghost use Rattle.image.specs.Calls.{_then_};
@@ -73,19 +72,6 @@ fn count_found(book: &[Entry]) -> usize
     count
 }
 
-// The marks of every line: those of a row, none past its end.
-fn marks_of(marks: &[u8]) -> [u8; MOST_LINES]
-    ensures { λ r. ⌜ (mostLines ≡ length r) × ((l : ℕ) → l < mostLines → on (getD r l 0) ≡ on (getD (now (marks .entry)) l 0)) ⌝ }
-{
-    let mut row = [0u8; MOST_LINES];
-    let mut l = 0;
-    while l < MOST_LINES {
-        row[l] = (0 < byte(marks, l)) as u8;
-        l += 1;
-    }
-    row
-}
-
 // An entry before it is worked out: none where its line is marked.
 fn cleared(marked: bool, e: Entry) -> Entry
     ensures { λ r. ⌜ r ≡ cond marked noneMark e ⌝ }
@@ -111,9 +97,8 @@ fn renew_marked(img: &[u8], counts: Counts, sort: Sort, marks: &[u8], book: &mut
     requires { ⌜ Renewable sort (now img) counts (now book) ⌝ }
     ensures { λ r. ⌜ Renewed sort (now (img .entry)) (now (marks .entry)) (now (book .entry)) r (now (book .exit)) ⌝ }
 {
-    let mut todo = marks_of(marks);
     clear(sort, marks, book);
-    try_all(img, counts, sort, 0, &mut todo, book);
+    try_all(img, counts, sort, 0, marks, book);
     count_found(book)
 }
 

@@ -156,22 +156,20 @@ few-entries Pins s (suc n) ok faults = omega (arith, faults n (le-refl (suc n)) 
 pub whole-part : (sort : Sort) (s : List ℕ) (n : ℕ) → Accepted s → ((k : ℕ) → k < n → OnBoard s (faultAt sort k)) → Part sort 0 s n
 whole-part sort s n ok faults = record { short = omega (arith, few-entries sort s n ok faults); faults = λ k l. rw zero-add (faults k l) }
 
-pub searched-renewed : (sort : Sort) (s marks old blank todo after : List ℕ) → Accepted s → ((k : ℕ) → k < length old → OnBoard s (faultAt sort k))
-    → Cleared sort marks old blank → ((l : ℕ) → l < mostLines → on (getD todo l 0) ≡ on (getD marks l 0))
-    → Searched sort 0 (boardOf s) (2 ^ inputs (boardOf s)) todo blank after → after ≡ reworked sort (boardOf s) marks old
+pub searched-renewed : (sort : Sort) (s marks old blank after : List ℕ) → Accepted s → ((k : ℕ) → k < length old → OnBoard s (faultAt sort k))
+    → Cleared sort marks old blank → Searched sort 0 (boardOf s) (2 ^ inputs (boardOf s)) marks blank after → after ≡ reworked sort (boardOf s) marks old
 unfolding reworkedEntry find
-searched-renewed sort s marks old blank todo after ok faults cleared copied done =
+searched-renewed sort s marks old blank after ok faults cleared done =
     let new : ℕ → List ℕ → ℕ = λ k before. reworkedEntry sort (boardOf s) marks old k in
     let long : length after ≡ length old = done .long ∙ cleared .long in
     ext-getD 0 after (reworked sort (boardOf s) marks old) (long ∙ sym (build-length new (length old))) (λ k l.
     let inside : k < length old = omega (arith, long) in
     let here : k < length blank = omega (arith, cleared .long) in
     let line = site (faultAt sort k) in
-    let same = copied line (omega (arith, faults k inside .inside, lines-few s ok)) in
     let is : getD after k 0 ≡ reworkedEntry sort (boardOf s) marks old k =
     ⊎-elim
     (λ (e : on (getD marks line 0) ≡ true).
-    rw e (rw zero-add at (done .worked k here (rw zero-add (same ∙ e)) (rw e at (cleared .each k inside)))))
-    (λ (e : on (getD marks line 0) ≡ false). rw e (done .kept k here (rw zero-add (same ∙ e)) ∙ (rw e at (cleared .each k inside))))
+    rw e (rw zero-add at (done .worked k here (rw zero-add e) (rw e at (cleared .each k inside)))))
+    (λ (e : on (getD marks line 0) ≡ false). rw e (done .kept k here (rw zero-add e) ∙ (rw e at (cleared .each k inside))))
     (way (on (getD marks line 0))) in
     is ∙ sym (build-at new (length old) k inside))

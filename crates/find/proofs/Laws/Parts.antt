@@ -18,7 +18,7 @@ use Rattle.board.specs.declared.Sort.the-variants.{Lines, Pins}
 use Rattle.board.proofs.Lists.{way, or-false}
 use Rattle.board.proofs.Reach.{on-bit}
 use Rattle.lanes.specs.Inner.{Block}
-use Rattle.find.specs.Inner.{Onward, testOf, lineOf, Part, LineEnd, Gone, Tried, TriedLine, Searched}
+use Rattle.find.specs.Inner.{Onward, testOf, lineOf, Part, LineEnd, Gone, Tried, TriedLine, Spacious, Searched}
 use Rattle.find.proofs.Laws.Blocks.{onward-start, onward-off, onward-on, onward-end, onward-done}
 
 -- a line ends where the next one begins, or with the part
@@ -224,3 +224,14 @@ module _ (sort : Sort) (first : ℕ) (b : Board) (todo part : List ℕ) where
         → ((k : ℕ) → k < length part → on (getD todo' (lineOf sort first k) 0) ≡ false) → Searched sort first b n todo part part'
     none-left h l off =
         record { long = h .long; worked = λ k i a is. onward-done (h .each k i) (off k i) l a is; kept = λ k i shut. h .each k i .done shut .0 }
+
+-- it is the same by a row in which the lines of the part are marked alike
+pub searched-as : (sort : Sort) (first : ℕ) (b : Board) (limit : ℕ) (todo marks part part' : List ℕ)
+    → ((k : ℕ) → k < length part → on (getD todo (lineOf sort first k) 0) ≡ on (getD marks (lineOf sort first k) 0))
+    → Searched sort first b limit todo part part' → Searched sort first b limit marks part part'
+searched-as sort first b limit todo marks part part' same h =
+    record { long = h .long; worked = λ k l a is. h .worked k l (same k l ∙ a) is; kept = λ k l off. h .kept k l (same k l ∙ off) }
+
+-- rows that are long enough for so many lines are long enough for fewer
+pub spacious : (lines most : ℕ) → lines ≤ most → Spacious lines (16 * most + 16) most
+spacious lines most l = record { rows-long = omega arith; todo-long = l }

@@ -17,7 +17,7 @@ try-all-requires : tie.Need-try-all-requires
 try-all-requires c κs =
     let start = c .before .before .before .before in
     let a = start .args in
-    (start .pre .0, one-part (a .sort) (a .img .now) (a .k) (start .pre .0 .ok) (start .pre .1), omega (arith, c .before .before .every-line .ensures .0))
+    (start .pre .0, one-part (a .sort) (a .img .now) (a .k) (start .pre .0 .ok) (start .pre .1))
 
 -- the entry is worked out
 entry-is : (c : tie.After-try-all) → let a = c .before .before .before .before .before .args in
@@ -30,14 +30,14 @@ entry-is c =
 
 returns : tie.Need-returns
 returns c =
-    let tried = c .before .before .before in
+    let tried = c .before .before in
     let start = tried .before .before .before .before .before in
     let s = start .args .img .now in
     none-found (boardOf s) (accepted-fine s (start .pre .0 .ok)) _ _ (entry-is tried) (c .if1 .taken)
 
 returns-2 : tie.Need-returns-2
 returns-2 c =
-    let tried = c .before .before .before in
+    let tried = c .before .before in
     let start = tried .before .before .before .before .before in
     let s = start .args .img .now in
     one-found (boardOf s) (accepted-fine s (start .pre .0 .ok)) _ _ (entry-is tried) (c .if1 .left)
