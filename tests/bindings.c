@@ -2,8 +2,8 @@
    that takes them hears them; both books; exclusive-or of three; drawings. bindings boards
    Its last line is 'N passed, M failed'. */
 #include "../bindings/c/fortizembo.h"
+#include "checks.h"
 #include <inttypes.h>
-#include <stdio.h>
 #include <string.h>
 
 #define NONE FORTIZEMBO_NONE
@@ -28,7 +28,7 @@ typedef struct {
 /* All that is lent beside a record. */
 typedef struct {
     uint8_t image[512], good[4], faulty[4], row[4], target[64];
-    uint32_t book[32], pins[32];
+    uint64_t book[32], pins[32];
 } room;
 
 typedef struct {
@@ -39,16 +39,6 @@ typedef struct {
 static const question fine = {44, 1, 1, 1, 2, 0, 0, 0, 3, 3, 3, 6, 24, 50, {5, 2, 0, 0, 1, 0, 0, 0, 0, 0}};
 static const uint8_t sorts[3] = {0, 1, 255};
 static room blank;
-static int passed, failed;
-
-/* One check. */
-static void check(int right, const char *name, const char *why)
-{
-    passed += right;
-    failed += !right;
-    if (!right)
-        printf("%s, %s\n", name, why);
-}
 
 static fortizembo_answer call(unsigned which, const question *q, room *r)
 {
@@ -297,7 +287,7 @@ typedef struct {
     uint64_t pattern;
     uint8_t faulty[3], five[3];
     uint64_t driven;
-    uint32_t found;
+    uint64_t found;
 } owed;
 
 static const owed of_t[] = {
@@ -318,7 +308,7 @@ static const owed of_t[] = {
 };
 
 /* Whether an answer gives a value, and this one: none for NONE. */
-static int gives(fortizembo_answer a, uint32_t value)
+static int gives(fortizembo_answer a, uint64_t value)
 {
     return a.number == 0 && (value == NONE ? a.values == 0 : a.values == 1 && a.first == value) && a.second == 0 && a.third == 0;
 }
@@ -335,7 +325,7 @@ static void heard_by_t(const board *t)
         check(gives(fortizembo_judge(t->bytes, t->length, o->pattern, o->fault), o->faulty[2] != rows[0][2]), "judge", o->name);
         check(gives(fortizembo_find(t->bytes, t->length, o->fault), o->found), "find", o->name);
         a = fortizembo_five(t->bytes, t->length, 1, o->pattern, o->fault, row, 3);
-        check(gives(a, (uint32_t)o->driven) && memcmp(row, o->five, 3) == 0, "five", o->name);
+        check(gives(a, o->driven) && memcmp(row, o->five, 3) == 0, "five", o->name);
         a = fortizembo_five(t->bytes, t->length, 0, 0, o->fault, row, 3);
         check(gives(a, 0) && memcmp(row, unnamed, 3) == 0, "five, no input named", o->name);
     }
@@ -347,11 +337,11 @@ static int shown(const board *s, uint64_t pattern, fortizembo_fault fault)
     uint8_t good[12], faulty[12], five[12];
     fortizembo_answer a = fortizembo_judge(s->bytes, s->length, pattern, fault);
     const int yes = a.number == 0 && a.first == 1;
-    check(gives(a, (uint32_t)yes), "judge", "a fault of S");
+    check(gives(a, (uint64_t)yes), "judge", "a fault of S");
     a = fortizembo_rows(s->bytes, s->length, pattern, fault, good, 12, faulty, 12);
     check(a.number == 0 && (good[11] != faulty[11]) == yes, "rows", "a fault of S");
     a = fortizembo_five(s->bytes, s->length, 15, pattern, fault, five, 12);
-    int right = gives(a, (uint32_t)yes);
+    int right = gives(a, (uint64_t)yes);
     for (unsigned i = 0; i < 12; i++)
         right &= five[i] == (good[i] == faulty[i] ? good[i] : good[i] == 1 ? 3 : 4);
     check(right, "five", "a fault of S");
@@ -359,10 +349,10 @@ static int shown(const board *s, uint64_t pattern, fortizembo_fault fault)
 }
 
 /* A fault of S: Find gives the entry of its book, a call that hears no fault, and that pattern is the first that shows it. */
-static void heard_by_s(const board *s, fortizembo_fault fault, uint32_t entry)
+static void heard_by_s(const board *s, fortizembo_fault fault, uint64_t entry)
 {
-    uint32_t first = NONE;
-    for (uint32_t pattern = 16; pattern-- > 0;)
+    uint64_t first = NONE;
+    for (uint64_t pattern = 16; pattern-- > 0;)
         if (shown(s, pattern, fault))
             first = pattern;
     check(first == entry, "judge", "the first pattern for a fault of S");
@@ -372,7 +362,7 @@ static void heard_by_s(const board *s, fortizembo_fault fault, uint32_t entry)
 /* Every fault of S, held to both its books. */
 static void faults_of_s(const board *s)
 {
-    uint32_t book[24], pins[96];
+    uint64_t book[24], pins[96];
     check(fortizembo_book(s->bytes, s->length, book, 24).number == 0, "book", "S");
     check(fortizembo_pin_book(s->bytes, s->length, pins, 96).number == 0, "pin_book", "S");
     check(book[8] == 0 && book[9] == 6 && pins[32] == NONE && pins[33] == 0, "both books", "S, line 4 and its pin 0");
@@ -388,10 +378,10 @@ static void faults_of_s(const board *s)
 }
 
 /* Alters a board whose books hold 99 everywhere: the books and the count that are owed, and the image with that one record. */
-static void altered(const board *b, size_t lines, size_t line, const uint8_t *record, const uint32_t *book, const uint32_t *pins, const char *why)
+static void altered(const board *b, size_t lines, size_t line, const uint8_t *record, const uint64_t *book, const uint64_t *pins, const char *why)
 {
     board now = *b, then = *b;
-    uint32_t entries[2][32];
+    uint64_t entries[2][32];
     uint64_t owed_count = 0;
     for (unsigned i = 0; i < 32; i++)
         entries[0][i] = entries[1][i] = 99;
@@ -402,8 +392,8 @@ static void altered(const board *b, size_t lines, size_t line, const uint8_t *re
     memcpy(then.bytes + 10 * line, record, 10);
     fortizembo_answer a = fortizembo_alter(now.bytes, now.length, entries[0], 2 * lines, entries[1], 8 * lines, line, record);
     check(a.number == 0 && a.values == 1 && a.first == owed_count, "alter, the count", why);
-    check(memcmp(entries[0], book, 8 * lines) == 0, "alter, the book", why);
-    check(memcmp(entries[1], pins, 32 * lines) == 0, "alter, the pin book", why);
+    check(memcmp(entries[0], book, 2 * lines * sizeof *book) == 0, "alter, the book", why);
+    check(memcmp(entries[1], pins, 8 * lines * sizeof *pins) == 0, "alter, the pin book", why);
     check(memcmp(&now, &then, sizeof now) == 0, "alter, the image", why);
 }
 
@@ -411,9 +401,9 @@ static void altered(const board *b, size_t lines, size_t line, const uint8_t *re
 static void alterations(const board *t, const board *h)
 {
     static const uint8_t and_0_1[10] = {3, 2, 0, 0, 1}, not_0[10] = {2, 1, 0}, not_1[10] = {2, 1, 1};
-    static const uint32_t and_book[6] = {NONE, NONE, NONE, 1, NONE, 0}, not_book[6] = {1, 0, NONE, NONE, 0, 1};
-    static const uint32_t h_book[8] = {99, 99, 2, 0, 99, 99, 0, 2};
-    uint32_t pins[32];
+    static const uint64_t and_book[6] = {NONE, NONE, NONE, 1, NONE, 0}, not_book[6] = {1, 0, NONE, NONE, 0, 1};
+    static const uint64_t h_book[8] = {99, 99, 2, 0, 99, 99, 0, 2};
+    uint64_t pins[32];
     memset(pins, 0xFF, sizeof pins);
     pins[8] = 1, pins[17] = 0, pins[19] = 1;
     altered(t, 3, 2, and_0_1, and_book, pins, "T, line 2 to and(0,1)");
@@ -429,7 +419,7 @@ static void alterations(const board *t, const board *h)
 /* The pin book of T by hand: 1.0/1 and 2.1/0 are shown by pattern 0, 2.0/0 by pattern 1, nothing else by any. */
 static void pin_book_of_t(const board *t)
 {
-    uint32_t pins[24], entries[24] = {0};
+    uint64_t pins[24], entries[24] = {0};
     memset(pins, 0xFF, sizeof pins);
     pins[8 * 1 + 2 * 0 + 1] = 0, pins[8 * 2 + 2 * 0 + 0] = 1, pins[8 * 2 + 2 * 1 + 0] = 0;
     check(gives(fortizembo_pin_book(t->bytes, t->length, entries, 24), 3) && memcmp(entries, pins, sizeof pins) == 0, "pin_book", "T");
@@ -462,9 +452,9 @@ static void makes(maker *call, const board *from, const board *to, const char *n
     memset(target, 9, sizeof target);
     memset(owed, 9, sizeof owed);
     memcpy(owed, to->bytes, to->length);
-    check(gives(call(from->bytes, from->length, target, to->length), (uint32_t)to->length) && memcmp(target, owed, sizeof owed) == 0, name, why);
+    check(gives(call(from->bytes, from->length, target, to->length), to->length) && memcmp(target, owed, sizeof owed) == 0, name, why);
     memset(target, 9, sizeof target);
-    check(gives(call(from->bytes, from->length, target, sizeof target), (uint32_t)to->length) && memcmp(target, owed, sizeof owed) == 0, name, why);
+    check(gives(call(from->bytes, from->length, target, sizeof target), to->length) && memcmp(target, owed, sizeof owed) == 0, name, why);
 }
 
 /* A board there and back, and with a note, which is not drawn. */
@@ -521,6 +511,5 @@ int main(int argc, char **argv)
     drawings(&s, &s_text, "S");
     drawings(&t, &t_text, "T");
     drawings(&h, &h_text, "H");
-    printf("%d passed, %d failed\n", passed, failed);
-    return failed != 0;
+    return ended();
 }

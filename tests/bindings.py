@@ -96,10 +96,10 @@ show the faulty row from 4: [1, 0, 0, 0, 0, 0, 0, 1]
 refresh T 1 from 1: Done [1, 0, 1]
 five T 1/1 2/0: Count(1) [1, 0, 3]
 five T 1/0 1.0/1: Count(1) [0, 3, 3]
-book T: Entries(2) [4294967295, 4294967295, 0, 4294967295, 0, 4294967295]
-pin book T: Entries(3) [4294967295, 0] [1, 4294967295, 0, 4294967295]
-alter T 2: Entries(5) [4294967295, 4294967295, 4294967295, 1, 4294967295, 0]
-its used pins: [1, 4294967295] [4294967295, 0, 4294967295, 1]
+book T: Entries(2) [18446744073709551615, 18446744073709551615, 0, 18446744073709551615, 0, 18446744073709551615]
+pin book T: Entries(3) [18446744073709551615, 0] [1, 18446744073709551615, 0, 18446744073709551615]
+alter T 2: Entries(5) [18446744073709551615, 18446744073709551615, 18446744073709551615, 1, 18446744073709551615, 0]
+its used pins: [1, 18446744073709551615] [18446744073709551615, 0, 18446744073709551615, 1]
 write it: Bytes(51)
 INPUT(n0)
 OUTPUT(n2)
@@ -148,14 +148,15 @@ def symbols():
 
 
 def from_c(compiler, words, runner):
-    """The example's numbers, every refusal, and every fault of board S."""
+    """The example's numbers, every refusal, every fault of board S, and boards of the most lines."""
     strict = ["-std=c11", "-O2", "-pedantic", "-Wall", "-Wextra", "-Wconversion", "-Werror", *words]
-    for name, source in (("example", "bindings/c/example.c"), ("refusals", "tests/bindings.c")):
+    for name, source in (("example", "bindings/c/example.c"), ("refusals", "tests/bindings.c"), ("large", "tests/large.c")):
         run(source, [compiler, *strict, ROOT / source, ARCHIVE, "-o", ROOM / name])
     compare("C example", run("C example", [*runner, ROOM / "example", ROOT / "boards"]), C_EXAMPLE)
-    written = run("C refusals", [*runner, ROOM / "refusals", ROOT / "boards"])
-    all_passed = re.search(r"^([0-9]+) passed, 0 failed\n\Z", written, re.MULTILINE)
-    count("C refusals", all_passed, written, int(all_passed[1]) if all_passed else 1)
+    for name in ("refusals", "large"):
+        written = run(f"C {name}", [*runner, ROOM / name, ROOT / "boards"])
+        all_passed = re.search(r"^([0-9]+) passed, 0 failed\n\Z", written, re.MULTILINE)
+        count(f"C {name}", all_passed, written, int(all_passed[1]) if all_passed else 1)
 
 
 def from_rust(compiler, runner):

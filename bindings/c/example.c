@@ -44,19 +44,19 @@ static void print_row(const char *name, const uint8_t *row, size_t length)
     printf("\n");
 }
 
-static void print_book(const char *name, const uint32_t *book, size_t entries)
+static void print_book(const char *name, const uint64_t *book, size_t entries)
 {
     printf("  %s", name);
     for (size_t i = 0; i < entries; i++)
         if (book[i] == FORTIZEMBO_NONE)
             printf(" none");
         else
-            printf(" %" PRIu32, book[i]);
+            printf(" %" PRIu64, book[i]);
     printf("\n");
 }
 
 /* A pin book, the eight entries of each line on a line. */
-static void print_pins(const uint32_t *pins, size_t lines)
+static void print_pins(const uint64_t *pins, size_t lines)
 {
     char name[32];
     for (size_t line = 0; line < lines; line++) {
@@ -103,7 +103,7 @@ static void pin_of_s(image s)
 static void board_t(image t)
 {
     const uint8_t and_0_1[10] = {3, 2, 0, 0, 1, 0, 0, 0, 0, 0};
-    uint32_t book[6], pins[24];
+    uint64_t book[6], pins[24];
     uint8_t row[3] = {1, 9, 9};
     say("find T 0/0", fortizembo_find(t.bytes, t.length, fortizembo_line_fault(0, 0)));
     say("refresh T 1 from 1", fortizembo_refresh(t.bytes, t.length, 1, 1, row, 3));
@@ -140,7 +140,7 @@ static void drawing_of_t(image t)
 static void board_h(image h)
 {
     const uint8_t not_1[10] = {2, 1, 1, 0, 0, 0, 0, 0, 0, 0};
-    uint32_t book[8], pins[32];
+    uint64_t book[8], pins[32];
     say("book H", fortizembo_book(h.bytes, h.length, book, 8));
     print_book("book", book, 8);
     say("pin book H", fortizembo_pin_book(h.bytes, h.length, pins, 32));

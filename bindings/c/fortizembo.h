@@ -3,12 +3,12 @@
 
    What a call owes is proved for every image, text, fault, pattern, line and length: whatever is bad is refused by its number, and then nothing that
    was lent is changed. No proof can see what stands behind a pointer. So this is the caller's duty, as C has it:
-   - a pointer is not null, and as many elements as its length says are there, bytes for an image, a row, a text or a target, uint32_t for a book,
+   - a pointer is not null, and as many elements as its length says are there, bytes for an image, a row, a text or a target, uint64_t for a book,
      ten bytes for a record; so also where the length is 0;
    - a buffer without const may be written, overlaps no other buffer of the call, so that two books lie apart, and nobody else uses it while
      the call runs;
    - a number fits its parameter's type: C cuts a wider one before the call, so that stuck value 256 would arrive as 0 (see -Wconversion).
-   A call keeps nothing, so calls may run side by side. */
+   A call keeps nothing, so calls may run side by side. It needs less than 2 MiB of stack. */
 #ifndef FORTIZEMBO_H
 #define FORTIZEMBO_H
 
@@ -20,7 +20,7 @@ extern "C" {
 #endif
 
 /* An entry of a book for none. */
-#define FORTIZEMBO_NONE UINT32_C(4294967295)
+#define FORTIZEMBO_NONE UINT64_MAX
 
 /* A fault: one line held at 0 or at 1 for everything that reads it, or one pin of a line's gate, for that gate alone. */
 typedef struct {
@@ -78,21 +78,21 @@ fortizembo_answer fortizembo_five(const uint8_t *image, size_t length, uint64_t 
 fortizembo_answer fortizembo_find(const uint8_t *image, size_t length, fortizembo_fault fault);
 
 /* Book: fills entry 2 x line + stuck value, entries being counted and not bytes; how many are not none. Refusals 1-5, 9. */
-fortizembo_answer fortizembo_book(const uint8_t *image, size_t length, uint32_t *book, size_t entries);
+fortizembo_answer fortizembo_book(const uint8_t *image, size_t length, uint64_t *book, size_t entries);
 
 /* Pin book: fills entry 8 x line + 2 x pin + stuck value, with none where that pin is absent; how many are not none. Refusals 1-5, 9. */
-fortizembo_answer fortizembo_pin_book(const uint8_t *image, size_t length, uint32_t *book, size_t entries);
+fortizembo_answer fortizembo_pin_book(const uint8_t *image, size_t length, uint64_t *book, size_t entries);
 
 /* Alter: puts a record in the image and brings both books up to date, the lines' and the pins'; how many entries of both together are then not
    none. Refusals 1-5, 6, 9 for either book, 10. */
-fortizembo_answer fortizembo_alter(uint8_t *image, size_t length, uint32_t *book, size_t entries, uint32_t *pins, size_t pin_entries, size_t line,
+fortizembo_answer fortizembo_alter(uint8_t *image, size_t length, uint64_t *book, size_t entries, uint64_t *pins, size_t pin_entries, size_t line,
                                    const uint8_t record[10]);
 
-/* Read: puts the image of the board that a drawing names in front of the target, without a note; its length, 5,260 at most. The target beyond it
+/* Read: puts the image of the board that a drawing names in front of the target, without a note; its length, 41,100 at most. The target beyond it
    keeps its bytes. Refusals 13, with the length of the longest beginning of the text that some drawing shares, 2, 4, 5, 14. */
 fortizembo_answer fortizembo_read(const uint8_t *text, size_t text_length, uint8_t *target, size_t target_length);
 
-/* Write: puts the drawing of the image's board in front of the target; its length, under 20,000. The target beyond it keeps its bytes. Refusals
+/* Write: puts the drawing of the image's board in front of the target; its length, under 170,000. The target beyond it keeps its bytes. Refusals
    1-5, 14. */
 fortizembo_answer fortizembo_write(const uint8_t *image, size_t length, uint8_t *target, size_t target_length);
 

@@ -1,17 +1,17 @@
 //! The calls of Fortizembo for Rust, over the proved archive libexports.a.
 //!
 //! Slices and types meet all that the archive leaves to its caller, so every function here is safe for any argument. Whatever is bad is
-//! refused, and then nothing that was lent is changed.
+//! refused, and then nothing that was lent is changed. A call needs less than 2 MiB of stack, so it may run on any thread of the standard library.
 
 mod raw;
 
 use raw::{Answer, FaultNumbers};
 
 /// A number in a book.
-pub type Entry = u32;
+pub type Entry = u64;
 
 /// The entry for none.
-pub const NONE: Entry = 4_294_967_295;
+pub const NONE: Entry = 18_446_744_073_709_551_615;
 
 /// A fault: one line held at 0 or at 1 for everything that reads it, or one pin of a line's gate, for that gate alone.
 #[derive(Clone, Copy, Debug, PartialEq, Eq)]
@@ -222,12 +222,12 @@ fn made(a: Answer) -> Made {
     }
 }
 
-/// Read: puts the image of the board that a drawing names in front of the target, without a note; 5,260 bytes hold any.
+/// Read: puts the image of the board that a drawing names in front of the target, without a note; 41,100 bytes hold any.
 pub fn read(text: &[u8], target: &mut [u8]) -> Made {
     made(unsafe { raw::fortizembo_read(text.as_ptr(), text.len(), target.as_mut_ptr(), target.len()) })
 }
 
-/// Write: puts the drawing of the image's board in front of the target; 20,000 bytes hold any.
+/// Write: puts the drawing of the image's board in front of the target; 170,000 bytes hold any.
 pub fn write(img: &[u8], target: &mut [u8]) -> Made {
     made(unsafe { raw::fortizembo_write(img.as_ptr(), img.len(), target.as_mut_ptr(), target.len()) })
 }

@@ -60,14 +60,14 @@ extern "C" {
         row_len: usize,
     ) -> Answer;
     pub fn fortizembo_find(img: *const u8, len: usize, fault: FaultNumbers) -> Answer;
-    pub fn fortizembo_book(img: *const u8, len: usize, book: *mut u32, entries: usize) -> Answer;
-    pub fn fortizembo_pin_book(img: *const u8, len: usize, book: *mut u32, entries: usize) -> Answer;
+    pub fn fortizembo_book(img: *const u8, len: usize, book: *mut u64, entries: usize) -> Answer;
+    pub fn fortizembo_pin_book(img: *const u8, len: usize, book: *mut u64, entries: usize) -> Answer;
     pub fn fortizembo_alter(
         img: *mut u8,
         len: usize,
-        book: *mut u32,
+        book: *mut u64,
         entries: usize,
-        pins: *mut u32,
+        pins: *mut u64,
         pin_entries: usize,
         line: usize,
         record: *const u8,

@@ -298,3 +298,45 @@ fn bad_targets_are_refused_last_and_nothing_is_changed() {
     }
     assert_eq!(target, [9; 199]);
 }
+
+/// Inputs, then a chain of nots from input 0, whose last line is the output.
+fn chain(lines: u16, inputs: u16) -> Vec<u8> {
+    let record = |line: u16| {
+        let pin = if line == inputs { 0 } else { line.wrapping_sub(1) }.to_le_bytes();
+        if line < inputs {
+            [0; 10]
+        } else {
+            [2, 1, pin[0], pin[1], 0, 0, 0, 0, 0, 0]
+        }
+    };
+    let mut img: Vec<u8> = (0..lines).flat_map(record).collect();
+    img.extend([(lines - 1).to_le_bytes(), lines.to_le_bytes(), 1u16.to_le_bytes()].concat());
+    img.extend((14 + 10 * u32::from(lines)).to_le_bytes());
+    img.extend(*b"BRD1");
+    img
+}
+
+#[test]
+fn boards_of_4096_lines_and_32_inputs_are_the_largest() {
+    assert_eq!(check(&chain(4096, 32)), Checked::Good(Counts { lines: 4096, inputs: 32, outputs: 1 }));
+    assert_eq!(check(&chain(4097, 32)), Checked::Refused(Refusal::Counts));
+    assert_eq!(check(&chain(4096, 33)), Checked::Refused(Refusal::Record { line: 32, field: 0 }));
+}
+
+#[test]
+fn patterns_have_32_bits() {
+    let (img, mut row) = (chain(4096, 32), vec![9; 4096]);
+    assert_eq!(judge(&img, 0xFFFF_FFFF, at(32, 1)), Judged::Yes);
+    assert_eq!(judge(&img, 1 << 32, at(32, 1)), Judged::Refused(Refusal::Pattern));
+    assert_eq!(five(&img, 1 << 32, 0, at(32, 1), &mut row), Driven::Refused(Refusal::Pattern));
+    assert_eq!(five(&img, 0xFFFF_FFFF, 0xFFFF_FFFE, at(32, 0), &mut row), Driven::Count(1));
+    assert_eq!(find(&img, at(4095, 0)), Found::Pattern(1));
+    assert_eq!(find(&img, pin_at(4095, 0, 0)), Found::Pattern(0));
+}
+
+#[test]
+fn an_entry_is_none_at_64_bits_alone() {
+    let (mut h, mut entries, mut pin_entries) = (board("H"), [4_294_967_295; 8], [NONE; 32]);
+    assert_eq!(alter(&mut h, &mut entries, &mut pin_entries, 3, NOT_1), Counted::Entries(10));
+    assert_eq!(entries, [4_294_967_295, 4_294_967_295, 2, 0, 4_294_967_295, 4_294_967_295, 0, 2]);
+}
