@@ -1,7 +1,7 @@
 #!/usr/bin/env python3
-"""Makes the sample images of document 01 and their drawings beside this file.
+"""Makes the sample images and their drawings beside this file: boards S, T and H of document 01, and an auction hall's.
 
-    boards/make.py          writes boards/S.img, T.img and H.img, and boards/S.txt, T.txt and H.txt
+    boards/make.py          writes boards/S.img, T.img, H.img and hall.img, and boards/S.txt, T.txt, H.txt and hall.txt
     boards/make.py --check  says whether those files, and the images on the bench sheet, are what this script makes
 """
 import re
@@ -10,8 +10,11 @@ import sys
 from pathlib import Path
 
 HERE = Path(__file__).resolve().parent
+sys.path.insert(0, str(HERE))
+from hall import hall  # noqa: E402
+from parts import AND, BUFFER, INPUT, NAND, NOR, NOT, OR, XNOR, XOR  # noqa: E402, F401
+
 MARK = bytes.fromhex("42524431")
-INPUT, BUFFER, NOT, AND, NAND, OR, NOR, XOR, XNOR = range(9)
 # a gate's word in a drawing, by its kind
 WORDS = ["", "BUFF", "NOT", "AND", "NAND", "OR", "NOR", "XOR", "XNOR"]
 
@@ -53,6 +56,8 @@ S = image(
 )
 T = image([record(INPUT), record(NOT, 0), record(OR, 0, 1)], [2])
 H = image([record(INPUT), record(INPUT), record(NOT, 0), record(BUFFER, 1)], [2, 3])
+HALL_RECORDS, HALL_OUTPUTS = hall()
+HALL = image([record(kind, *pins) for kind, pins in HALL_RECORDS], HALL_OUTPUTS)
 
 # the images as the bench sheet writes them out
 SHEET = HERE.parent / "crates/sheet/specs/Boards.antt"
@@ -64,13 +69,14 @@ def on_the_sheet(name):
     return bytes.fromhex("".join(re.findall(r'"([^"]*)"', definition)).replace("/", " "))
 
 
-SAMPLES = {"S": S, "T": T, "H": H}
+ON_THE_SHEET = {"S": S, "T": T, "H": H}
+SAMPLES = ON_THE_SHEET | {"hall": HALL}
 FILES = {HERE / f"{name}.img": data for name, data in SAMPLES.items()} | {HERE / f"{name}.txt": drawing(data) for name, data in SAMPLES.items()}
 
 if __name__ == "__main__":
     if sys.argv[1:] == ["--check"]:
         stale = [str(p) for p, data in FILES.items() if not p.exists() or p.read_bytes() != data]
-        stale += [f"{SHEET}: {name}" for name, data in SAMPLES.items() if on_the_sheet(name) != data]
+        stale += [f"{SHEET}: {name}" for name, data in ON_THE_SHEET.items() if on_the_sheet(name) != data]
         print("not what boards/make.py makes: " + ", ".join(stale) if stale else "boards: as made")
         sys.exit(1 if stale else 0)
     for path, data in FILES.items():

@@ -7,29 +7,16 @@
 import random
 import sys
 
-from shapes import INPUT, Board
+from shapes import INPUT, Board, make
 
-BUFFER, NOT, AND, NAND, OR, NOR, XOR, XNOR = range(1, 9)
+sys.path.insert(0, str(make.HERE))
+import hall  # noqa: E402
+import parts  # noqa: E402
+from parts import AND, NAND, NOR, NOT, OR, XNOR, XOR, decoded, greater, majority  # noqa: E402
 
 
-class Drawing:
-    """A board in the making: lines are added one after another, and each is then known by its number."""
-
-    def __init__(self, inputs):
-        """A drawing of inputs alone."""
-        self.records, self.inputs = [INPUT] * inputs, list(range(inputs))
-
-    def gate(self, kind, *pins):
-        """A gate's line."""
-        self.records.append((kind, pins))
-        return len(self.records) - 1
-
-    def all_of(self, kind, lines):
-        """The line that gathers any number of lines by ands, ors or exclusive-ors of up to four pins."""
-        while len(lines) > 1:
-            parts = [lines[i:i + 4] for i in range(0, len(lines), 4)]
-            lines = [self.gate(kind, *part) if len(part) > 1 else part[0] for part in parts]
-        return lines[0]
+class Drawing(parts.Drawing):
+    """A board in the making that may hold copies of others."""
 
     def copied(self, board):
         """The gates of a board once more, on this drawing's own inputs; gives the outputs' lines."""
@@ -118,12 +105,6 @@ def added(d, row, partial):
 
 # multiplexers and arbiters
 
-def decoded(d, selects, count):
-    """A line for each number below the count, 1 when the select lines have that number."""
-    opposite = [d.gate(NOT, line) for line in selects]
-    return [d.gate(AND, *((select if number >> i & 1 else no) for i, (select, no) in enumerate(zip(selects, opposite)))) for number in range(count)]
-
-
 def selected(inputs):
     """How many of so many inputs select among the others."""
     return next(n for n in range(2, 6) if inputs - n <= 1 << n)
@@ -170,15 +151,6 @@ def round_robin(inputs):
     low, _ = first_of(d, bidders)
     none = d.gate(NOT, some)
     return d.board([d.gate(OR, up, d.gate(AND, down, none)) for up, down in zip(high, low)])
-
-
-def greater(d, a, b):
-    """Whether one number is greater than another of as many lines, the lowest first."""
-    above = d.gate(AND, a[0], d.gate(NOT, b[0]))
-    for left, right in zip(a[1:], b[1:]):
-        more, same = d.gate(AND, left, d.gate(NOT, right)), d.gate(XNOR, left, right)
-        above = d.gate(OR, more, d.gate(AND, same, above))
-    return above
 
 
 def tie_arbiter(inputs):
@@ -241,11 +213,6 @@ def random_board(inputs):
 
 # boards where most faults are none
 
-def majority(d, a, b, c):
-    """What two of three lines say."""
-    return d.gate(OR, d.gate(AND, a, b), d.gate(AND, a, c), d.gate(AND, b, c))
-
-
 def triplicated(base):
     """A board three times over, with a voter for each output."""
     d = Drawing(base.inputs)
@@ -296,14 +263,18 @@ GROWTH = {
 }
 
 
+# the hall at two sizes of one shape, on which calls are timed that fill no book: its own would take hours
+HALLS = {"32 inputs": {name: Board(*hall.hall(bays)) for name, bays in (("hall, 512 lines", 3), ("hall", hall.BAYS))}}
+
+
 def within(board):
-    """Whether a board keeps document 01's limits."""
-    return board.lines <= 512 and 1 <= board.inputs <= 24 and 1 <= len(board.outputs) <= 64
+    """Whether a board keeps the papers' limits."""
+    return board.lines <= 4096 and 1 <= board.inputs <= 32 and 1 <= len(board.outputs) <= 64
 
 
 def main(words):
     """Names every board, or writes the image of one, named by its group and its name."""
-    boards = {f"{group}: {name}": board for part in (GROUPS, GROWTH) for group, named in part.items() for name, board in named.items()}
+    boards = {f"{group}: {name}": board for part in (GROUPS, GROWTH, HALLS) for group, named in part.items() for name, board in named.items()}
     if words:
         sys.stdout.buffer.write(boards[words[0]].image())
         return 0

@@ -10,7 +10,7 @@ import dataclasses
 import subprocess
 import time
 
-NONE = 2**32 - 1
+NONE = 2**64 - 1
 # the two books: the command that fills one and the command that lists it
 BOOKS = ("book", "entries"), ("pin book", "pin entries")
 # how often a book is filled in one round at most, so that all answers fit a pipe
