@@ -1,4 +1,4 @@
-"""Books timed at the console: ours and the obvious way's, with every answer of the two compared.
+"""Books timed at the console: ours and the obvious way's, with every answer of the two compared; and other calls of ours on boards of two sizes.
 
 A program is started, takes the board, and is then asked for the same book again and again, so that its start does not count. Seconds are
 those that the program has the processor, so that nothing else on the machine counts; both programs run in one thread. Where the
@@ -7,8 +7,11 @@ patterns of every fault, times the number of patterns that it would try. That nu
 an entry the entry and 1 more, for one with none every pattern of the board.
 """
 import dataclasses
+import math
 import subprocess
 import time
+
+from shapes import packed
 
 NONE = 2**64 - 1
 # the two books: the command that fills one and the command that lists it
@@ -30,6 +33,8 @@ class Pace:
 
 
 QUICK = Pace(whole=0.5, part=0.1, enough=0.05, rounds=2)
+# how often calls are timed on boards of two sizes in turn, so that what else the machine does falls on both
+TURNS = 4
 
 
 class Differs(Exception):
@@ -176,3 +181,37 @@ class Timing:
             return Book(len(asked.faults), asked.none, by_rule(), seconds, True)
         slow = asked.whole(obvious, self.pace)
         return Book(len(asked.faults), asked.none, slow, seconds, False, by_rule() / slow if slow > 1 else None)
+
+
+# calls on boards of one shape and two sizes
+
+def calls(board):
+    """A command for each call whose time is to be in proportion to the lines, and how its answer begins. The altered line reaches no output, before
+    and after, so that no entry is touched and each is counted."""
+    pattern, fault = (1 << board.inputs) * 2 // 3, f"{board.inputs}/0"
+    idle = max(line for line, outputs in enumerate(board.reached()) if not outputs)
+    kind, pins = board.records[idle]
+    record = packed((kind - 1 if kind % 2 == 0 else kind + 1, pins)).hex()
+    return {
+        "Check": ("check", f"board {board.lines} lines"),
+        "Rows": (f"rows {pattern} {fault}", "filled"),
+        "Judge": (f"judge {pattern} {fault}", ("yes", "no")),
+        "Five values": (f"five {pattern} {pattern} {fault}", "drives "),
+        "Alter, nothing touched": (f"alter {idle} {record}", f"found {10 * board.lines} of {10 * board.lines}"),
+    }
+
+
+def grown(product, boards, pace):
+    """For each call its seconds on each of some boards, the best of all turns."""
+    best = {}
+    for _ in range(TURNS):
+        for place, board in enumerate(boards):
+            with Console(product) as console:
+                console.ask(f"load {board.image().hex()}")
+                for name, (command, expected) in calls(board).items():
+                    seconds, answer = console.once(command, pace)
+                    if not answer.startswith(expected):
+                        raise Differs(f"{command}: {answer[:200]!r}")
+                    row = best.setdefault(name, [math.inf] * len(boards))
+                    row[place] = min(row[place], seconds)
+    return best
