@@ -1,22 +1,19 @@
 #!/usr/bin/env python3
 """The exported calls from C and Rust: the archive is proved and written, linked, and held to the papers' numbers.
 
-The archive is for x86-64. Elsewhere a cross compiler and an emulator are used where they are installed, and what is skipped is said.
 Its last line is 'N passed, M failed'.
 """
 import os
-import platform
 import re
-import shutil
 import subprocess
 from pathlib import Path
 
+import archive
 import programs
-from counted import count, counts, end
+from archive import ARCHIVE, ROOM, compiled, run
+from counted import count, end
 from programs import ROOT
 
-ARCHIVE = ROOT / "target/staticlib/libexports.a"
-ROOM = ROOT / "target/bindings"
 TARGET = "x86_64-unknown-linux-gnu"
 CALLS = ("alter", "book", "check", "find", "five", "judge", "pin_book", "read", "refresh", "rows", "show", "write")
 
@@ -109,13 +106,6 @@ read that: Bytes(44), the same image: true
 read it without its last line feed: Refused(Form(50))
 """
 
-def run(name, command, **words):
-    """What a command writes, or nothing where it fails, which is a failed check."""
-    done = subprocess.run([str(c) for c in command], stdout=subprocess.PIPE, stderr=subprocess.STDOUT, text=True, timeout=1800, **words)
-    if done.returncode != 0:
-        count(name, False, f"exit {done.returncode}: {done.stdout[-2000:]}")
-    return done.stdout
-
 
 def compare(name, written, expected):
     """A check for each expected line, and one that nothing else is written."""
@@ -124,20 +114,6 @@ def compare(name, written, expected):
         found = lines[i] if i < len(lines) else "nothing"
         count(name, found == line, f"expected {line!r}, found {found!r}")
     count(name, len(lines) == len(wanted), f"{len(lines)} lines for {len(wanted)}")
-
-
-def tools():
-    """The C compiler, its words, and what runs an x86-64 program; ends the tests in words where there is none."""
-    if platform.machine() == "x86_64":
-        return os.environ.get("CC", "cc"), [], []
-    compiler = shutil.which("x86_64-linux-gnu-gcc")
-    own = programs.kit() / "on" / platform.machine() / "toolchain/bin/qemu-x86_64"
-    emulator = shutil.which("qemu-x86_64") or shutil.which("qemu-x86_64-static") or (str(own) if own.exists() else None)
-    lacking = [n for n, t in (("x86_64-linux-gnu-gcc", compiler), ("qemu-x86_64", emulator)) if t is None]
-    if lacking:
-        print(f"SKIPPED: the archive links into x86-64 programs alone, and this {platform.machine()} has no {' and no '.join(lacking)}")
-        end()
-    return compiler, ["-static"], [emulator]
 
 
 def symbols():
@@ -149,14 +125,12 @@ def symbols():
 
 def from_c(compiler, words, runner):
     """The example's numbers, every refusal, every fault of board S, and boards of the most lines."""
-    strict = ["-std=c11", "-O2", "-pedantic", "-Wall", "-Wextra", "-Wconversion", "-Werror", *words]
-    for name, source in (("example", "bindings/c/example.c"), ("refusals", "tests/bindings.c"), ("large", "tests/large.c")):
-        run(source, [compiler, *strict, ROOT / source, ARCHIVE, "-o", ROOM / name])
-    compare("C example", run("C example", [*runner, ROOM / "example", ROOT / "boards"]), C_EXAMPLE)
-    for name in ("refusals", "large"):
-        written = run(f"C {name}", [*runner, ROOM / name, ROOT / "boards"])
+    example = compiled(compiler, words, "bindings/c/example.c")
+    compare("C example", run("C example", [*runner, example, ROOT / "boards"]), C_EXAMPLE)
+    for source in ("tests/bindings.c", "tests/large.c"):
+        written = run(source, [*runner, compiled(compiler, words, source), ROOT / "boards"])
         all_passed = re.search(r"^([0-9]+) passed, 0 failed\n\Z", written, re.MULTILINE)
-        count(f"C {name}", all_passed, written, int(all_passed[1]) if all_passed else 1)
+        count(source, all_passed, written, int(all_passed[1]) if all_passed else 1)
 
 
 def from_rust(compiler, runner):
@@ -177,12 +151,8 @@ def from_rust(compiler, runner):
     compare("Rust example", run("Rust example", ["cargo", "run", *at, "--example", "calls"], env=words), RUST_EXAMPLE)
 
 
-compiler, words, runner = tools()
-# one rt at a time in this folder, as the launcher has it
-run("archive", ["flock", ROOT, "rt", "staticlib", "exports"], cwd=ROOT)
-if counts[False]:
-    end()
-ROOM.mkdir(parents=True, exist_ok=True)
+compiler, words, runner = archive.tools()
+archive.build()
 symbols()
 from_c(compiler, words, runner)
 from_rust(compiler, runner)

@@ -1,6 +1,7 @@
 /* The exported calls from C on boards of 4,096 lines and 64 outputs, with answers worked out by hand: one of 32 inputs, whose image is as long as
-   a good one may be, for every call but the books, and one of 1 input for these. Nothing large stands on the stack, so that what the calls need
-   there can be tested with a small one. Its last line is 'N passed, M failed'. */
+   a good one may be, for every call but the books, and one of 1 input for these; and on the sample board of a hall. Nothing large stands on the
+   stack, so that what the calls need there can be tested with a small one. large boards
+   Its last line is 'N passed, M failed'. */
 #include "../bindings/c/fortizembo.h"
 #include "checks.h"
 #include <string.h>
@@ -291,8 +292,48 @@ static void drawings(void)
     check(is(fortizembo_read(text, draw(33), now.target, TEXT), 4, 2, 32, 0), "read", "33 inputs");
 }
 
-int main(void)
+/* A sample file, read into a buffer; its length, or 0 where it cannot be read. */
+static size_t load(const char *folder, const char *name, uint8_t *into, size_t most)
 {
+    char path[1024];
+    snprintf(path, sizeof path, "%s/%s", folder, name);
+    FILE *file = fopen(path, "rb");
+    if (file == NULL)
+        return 0;
+    const size_t length = fread(into, 1, most, file);
+    fclose(file);
+    return length;
+}
+
+/* The hall, as an image and as its drawing: every call but the books, which would take hours. Its last line is a spare gate, so that altering
+   it touches no entry. */
+static void hall(const char *folder)
+{
+    const uint64_t pattern = 0xAAAAAAAA;
+    const fortizembo_fault fault = fortizembo_line_fault(32, 0);
+    uint8_t record[10];
+    memset(&now, 9, sizeof now);
+    now.length = load(folder, "hall.img", now.image, sizeof now.image);
+    const size_t n = load(folder, "hall.txt", text, TEXT), length = now.length;
+    check(fortizembo_check(now.image, length).first == LINES && n > 0, "check", "the hall");
+    check(is(fortizembo_write(now.image, length, now.target, TEXT), 0, 1, n, 0) && memcmp(now.target, text, n) == 0, "write", "the hall");
+    check(is(fortizembo_read(text, n, now.target, TEXT), 0, 1, length, 0) && memcmp(now.target, now.image, length) == 0, "read", "the hall");
+    check(is(fortizembo_rows(now.image, length, pattern, fault, now.good, LINES, now.faulty, LINES), 0, 0, 0, 0), "rows", "the hall");
+    memcpy(now.target, now.good, LINES);
+    check(is(fortizembo_refresh(now.image, length, pattern, 0, now.good, LINES), 0, 0, 0, 0) && memcmp(now.target, now.good, LINES) == 0, "refresh", "the hall");
+    check(is(fortizembo_judge(now.image, length, pattern, fault), 0, 1, 0, 0), "judge", "a line that is 0 at 0");
+    check(fortizembo_five(now.image, length, UINT32_MAX, pattern, fault, now.good, LINES).number == 0 && memcmp(now.target, now.good, LINES) == 0, "five",
+          "a line that is 0 at 0");
+    check(is(fortizembo_find(now.image, length, fault), 0, 1, 1, 0), "find", "the driver of input 0 at 0");
+    memcpy(record, now.image + 10 * LAST, 10);
+    record[0] = 6;
+    check(is(fortizembo_alter(now.image, length, now.book, 2 * LINES, now.pins, 8 * LINES, LAST, record), 0, 1, 10 * LINES, 0), "alter", "the hall");
+    check(memcmp(now.image + 10 * LAST, record, 10) == 0, "alter", "the hall's record");
+}
+
+int main(int argc, char **argv)
+{
+    hall(argc == 2 ? argv[1] : "boards");
     limits();
     patterns();
     five_values();
