@@ -5,8 +5,8 @@
     tools/stack.py --check [FILE]  says whether every call needs less than 2 MiB, and no more than docs/ARCHITECTURE.md has for it
 
 A function's frame is what all its pushes and subtractions from the stack pointer take together, which is never less than what it has at one time. A
-call needs the frames on its deepest path, with a return address for each; a path that comes back to where it was is refused, and so is any
-other change of the stack pointer that takes more. A function of the C library is taken to need a page.
+call needs the frames on its deepest path, with a return address for each. A path that comes back to where it was is refused, unless TURNS says how
+often it may, and so is any other change of the stack pointer that takes more. A function of the C library is taken to need a page.
 """
 import os
 import re
@@ -22,6 +22,8 @@ LIMIT, OUTSIDE, ADDRESS = 2 << 20, 4096, 8
 HEAD = "| Call | KiB of stack at most |"
 FUNCTION, INSTRUCTION = re.compile(r"^[0-9a-f]+ <(.+)>:$"), re.compile(r"^\s*([0-9a-f]+):\s+([a-z]\S*)\s*([^#]*)")
 RELOCATION = re.compile(r"^\s+[0-9a-f]+:\s+R_X86_64_(\w+)\s+(.+?)(?:[-+]0x[0-9a-f]+)?$")
+# functions that call themselves, and how often they are on the stack at most: once for each of a gate's four pins
+TURNS = {"drawing::pins::read_pins": 4}
 # where a call leads that names no function
 BY_POINTER = "a pointer at"
 
@@ -134,7 +136,8 @@ def needs(found, entries):
         if name not in found or name.endswith("@plt"):
             return OUTSIDE
         open_calls.append(name)
-        most = ADDRESS + frame(found[name]) + max(map(need, sorted(found[name].callees)), default=0)
+        below = found[name].callees - ({name} if name in TURNS else set())
+        most = TURNS.get(name, 1) * (ADDRESS + frame(found[name])) + max(map(need, sorted(below)), default=0)
         open_calls.pop()
         return most
 
