@@ -120,7 +120,8 @@ static void limits(void)
 {
     fresh(LINES, 32);
     const fortizembo_answer a = fortizembo_check(now.image, now.length);
-    check(now.length == LONGEST && a.number == 0 && a.values == 3 && a.first == LINES && a.second == 32 && a.third == OUTPUTS, "check", "the longest good image");
+    check(now.length == LONGEST && a.number == 0 && a.values == 3 && a.first == LINES && a.second == 32 && a.third == OUTPUTS, "check",
+          "the longest good image");
     fresh(LINES + 1, 32);
     refused("4,097 lines", 2, 0, 0, 0);
     fresh(LINES, 33);
@@ -283,8 +284,8 @@ static void drawings(void)
     const size_t n = draw(32);
     fresh(LINES, 32);
     check(is(fortizembo_write(now.image, now.length, now.target, n - 1), 14, 0, 0, 0) && untouched(), "write", "a target a byte too short");
-    check(is(fortizembo_write(now.image, now.length, now.target, TEXT), 0, 1, n, 0) && memcmp(now.target, text, n) == 0 && now.target[n] == 9, "write",
-          "4,096 lines");
+    check(is(fortizembo_write(now.image, now.length, now.target, TEXT), 0, 1, n, 0) && memcmp(now.target, text, n) == 0 && now.target[n] == 9,
+          "write", "4,096 lines");
     check(is(fortizembo_read(text, n, now.target, TEXT), 0, 1, LONGEST - NOTE, 0), "read", "4,096 lines");
     check(memcmp(now.target, now.image + NOTE, LONGEST - NOTE) == 0, "read", "the image of 4,096 lines");
     memcpy(text + n, "n4096 = NOT(n0)\n", 16);
@@ -320,10 +321,11 @@ static void hall(const char *folder)
     check(is(fortizembo_read(text, n, now.target, TEXT), 0, 1, length, 0) && memcmp(now.target, now.image, length) == 0, "read", "the hall");
     check(is(fortizembo_rows(now.image, length, pattern, fault, now.good, LINES, now.faulty, LINES), 0, 0, 0, 0), "rows", "the hall");
     memcpy(now.target, now.good, LINES);
-    check(is(fortizembo_refresh(now.image, length, pattern, 0, now.good, LINES), 0, 0, 0, 0) && memcmp(now.target, now.good, LINES) == 0, "refresh", "the hall");
+    check(is(fortizembo_refresh(now.image, length, pattern, 0, now.good, LINES), 0, 0, 0, 0) && memcmp(now.target, now.good, LINES) == 0, "refresh",
+          "the hall");
     check(is(fortizembo_judge(now.image, length, pattern, fault), 0, 1, 0, 0), "judge", "a line that is 0 at 0");
-    check(fortizembo_five(now.image, length, UINT32_MAX, pattern, fault, now.good, LINES).number == 0 && memcmp(now.target, now.good, LINES) == 0, "five",
-          "a line that is 0 at 0");
+    check(is(fortizembo_five(now.image, length, UINT32_MAX, pattern, fault, now.good, LINES), 0, 1, 0, 0) && memcmp(now.target, now.good, LINES) == 0,
+          "five", "a line that is 0 at 0");
     check(is(fortizembo_find(now.image, length, fault), 0, 1, 1, 0), "find", "the driver of input 0 at 0");
     memcpy(record, now.image + 10 * LAST, 10);
     record[0] = 6;

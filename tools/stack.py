@@ -87,7 +87,7 @@ def functions(path):
 
 
 def probed(name, after):
-    """What a loop takes that touches each page of a large frame, from the instruction after `mov %rsp,%r11` on, beside its step, which is counted by itself."""
+    """What a loop takes that touches each page of a large frame, from what follows `mov %rsp,%r11` on, beside its step, which counts by itself."""
     (_, first, size), (start, second, step), _, (_, third, held), (_, fourth, back) = after[:5]
     is_loop = (first, second, third, held, fourth) == ("sub", "sub", "cmp", "%r11,%rsp", "jne") and size.endswith(",%r11") and step.endswith(",%rsp")
     if not is_loop or int(re.match(r"[0-9a-fx]+", back)[0], 16) != start:

@@ -1,7 +1,7 @@
 //! The calls of Fortizembo for Rust, over the proved archive libexports.a.
 //!
 //! Slices and types meet all that the archive leaves to its caller, so every function here is safe for any argument. Whatever is bad is
-//! refused, and then nothing that was lent is changed. A call needs less than 2 MiB of stack, so it may run on any thread of the standard library.
+//! refused, and then nothing that was lent is changed. A call needs less than 2 MiB of stack.
 
 mod raw;
 
