@@ -151,8 +151,8 @@ def table(needed):
 
 def faults(needed):
     """What is wrong with the calls or with the page's table."""
-    after = PAGE.read_text().partition(HEAD)[2]
-    rows = {name: int(size.replace(",", "")) for name, size in re.findall(r"^\| `(\w+)` \| ([0-9,]+) \|$", after, re.M)}
+    listed = PAGE.read_text().partition(HEAD)[2].partition("\n\n")[0]
+    rows = {name: int(size.replace(",", "")) for name, size in re.findall(r"^\| `(\w+)` \| ([0-9,]+) \|$", listed, re.M)}
     for name, size in needed.items():
         if size >= LIMIT:
             yield f"{name} may need {size:,} bytes, which is not under 2 MiB"
