@@ -4,8 +4,10 @@ use crate::board::{self, Fault};
 use crate::drawing;
 use crate::image::{self, Board, Record, Refusal, RECORD};
 
+/// An entry of either book.
+pub type Entry = u64;
 /// The entry that says no pattern shows the fault.
-pub const NONE: u32 = 4_294_967_295;
+pub const NONE: Entry = 18_446_744_073_709_551_615;
 
 /// What Check answers.
 #[derive(Clone, Copy, Debug, PartialEq, Eq)]
@@ -85,26 +87,26 @@ fn pin_faults(lines: &[u64]) -> Vec<Fault> {
 }
 
 // Gives these faults' entries afresh: Find's answer for each, or the number for none, which an absent pin has too.
-fn fill_entries(board: &Board, faults: &[Fault], book: &mut [u32]) {
+fn fill_entries(board: &Board, faults: &[Fault], book: &mut [Entry]) {
     let (absent, present): (Vec<Fault>, Vec<Fault>) = faults.iter().partition(|fault| fault.is_absent(board));
     for fault in &absent {
         book[fault.entry()] = NONE;
     }
     for (fault, answer) in present.iter().zip(board::find_all(board, &present)) {
         book[fault.entry()] = match answer {
-            Some(pattern) => pattern as u32,
+            Some(pattern) => pattern,
             None => NONE,
         };
     }
 }
 
 // Gives how many entries are not none.
-fn found(book: &[u32]) -> usize {
+fn found(book: &[Entry]) -> usize {
     book.iter().filter(|&&entry| entry != NONE).count()
 }
 
 // Gives the whole book in the lent book, and how many entries are not none.
-pub fn book(image: &[u8], book: &mut [u32]) -> Result<usize, Refusal> {
+pub fn book(image: &[u8], book: &mut [Entry]) -> Result<usize, Refusal> {
     let board = image::decode(image)?;
     refuse_when(book.len() != 2 * board.lines(), 9)?;
     let lines: Vec<u64> = (0..board.lines() as u64).collect();
@@ -113,7 +115,7 @@ pub fn book(image: &[u8], book: &mut [u32]) -> Result<usize, Refusal> {
 }
 
 // Gives the whole pin book in the lent pin book, and how many of its entries are not none.
-pub fn pin_book(image: &[u8], pins: &mut [u32]) -> Result<usize, Refusal> {
+pub fn pin_book(image: &[u8], pins: &mut [Entry]) -> Result<usize, Refusal> {
     let board = image::decode(image)?;
     refuse_when(pins.len() != 8 * board.lines(), 9)?;
     let lines: Vec<u64> = (0..board.lines() as u64).collect();
@@ -131,8 +133,8 @@ pub fn alter(
     image: &mut [u8],
     line: u64,
     bytes: &[u8; RECORD],
-    book: &mut [u32],
-    pins: &mut [u32],
+    book: &mut [Entry],
+    pins: &mut [Entry],
 ) -> Result<usize, Refusal> {
     let before = image::decode(image)?;
     let line = named_line(&before, line)?;

@@ -1,7 +1,7 @@
 //! The bench console: one command a line, one answer a line.
 
 use crate::board::Fault;
-use crate::calls;
+use crate::calls::{self, Entry};
 use crate::drawing;
 use crate::image::{Refusal, RECORD};
 use crate::text::counts_text;
@@ -45,8 +45,8 @@ pub struct Console {
     image: Vec<u8>,
     good: Vec<u8>,
     faulty: Vec<u8>,
-    book: Vec<u32>,
-    pins: Vec<u32>,
+    book: Vec<Entry>,
+    pins: Vec<Entry>,
     target: Vec<u8>,
 }
 
@@ -121,18 +121,18 @@ fn fault(word: &[u8]) -> Result<Fault, Reason> {
     }
 }
 
-// Gives `lent` after putting one number in a book.
-fn put_number(book: &mut [u32], place: &[u8], value: &[u8]) -> Answer {
+// Gives `lent` after putting one number in a book; every number that a word can be fits an entry.
+fn put_number(book: &mut [Entry], place: &[u8], value: &[u8]) -> Answer {
     let (place, value) = (number(place)?, number(value)?);
     if place >= book.len() as u64 {
         return Err("past the end");
     }
-    book[place as usize] = u32::try_from(value).map_err(|_| "wider than an entry")?;
+    book[place as usize] = value;
     Ok("lent".to_string())
 }
 
 // Gives a book's numbers, each after a space.
-fn numbers(book: &[u32]) -> String {
+fn numbers(book: &[Entry]) -> String {
     book.iter().map(|entry| format!(" {entry}")).collect()
 }
 

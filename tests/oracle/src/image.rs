@@ -9,11 +9,11 @@ pub const TRAILER: usize = 12;
 /// A record's length in bytes.
 pub const RECORD: usize = 10;
 /// The most lines a board has.
-pub const MOST_LINES: usize = 512;
+pub const MOST_LINES: usize = 4_096;
 /// The most outputs a board has.
 pub const MOST_OUTPUTS: usize = 64;
 /// The most inputs a board has.
-pub const MOST_INPUTS: usize = 24;
+pub const MOST_INPUTS: usize = 32;
 /// The longest note in bytes.
 pub const MOST_NOTE: usize = 256;
 /// The length of the longest good image in bytes.

@@ -1,6 +1,6 @@
 //! Both books as text.
 
-use crate::calls::{self, Counts, NONE};
+use crate::calls::{self, Counts, Entry, NONE};
 use crate::image::{self, Board, Refusal, MOST_IMAGE};
 use std::io::{self, ErrorKind, Read};
 
@@ -10,7 +10,7 @@ pub fn counts_text(counts: &Counts) -> String {
 }
 
 // Gives an entry's word: the pattern, or none.
-fn entry_text(entry: u32) -> String {
+fn entry_text(entry: Entry) -> String {
     if entry == NONE {
         return "none".to_string();
     }

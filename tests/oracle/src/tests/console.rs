@@ -3,6 +3,8 @@
 use super::*;
 use crate::console::{talk, Console};
 
+/// The entry for none, as the console writes it.
+const NONE: &str = "18446744073709551615";
 /// Lines that are no command.
 #[rustfmt::skip]
 const MALFORMED: &[&str] = &[
@@ -17,13 +19,13 @@ const MALFORMED: &[&str] = &[
     "open ", "save ", "open /nonexistent/board", "save /nonexistent/board", "open /", "save /", "open a b", "lend",
     "lend rows", "lend rows 1", "lend rows 1 8193", "lend rows 8193 1", "lend rows 1 1 1", "lend book",
     "lend book 16385", "lend book x", "lend good 1", "put", "put good", "put good 0", "put good 0G", "put bad 00",
-    "put entry 0", "put entry 6 1", "put entry 0 4294967296", "put entry 0 -1", "put entry 99999999999 1",
+    "put entry 0", "put entry 6 1", "put entry 0 18446744073709551616", "put entry 0 -1", "put entry 99999999999 1",
     "find 2.", "find .0/1", "find 2./1", "find 2.0", "find 2.0/", "find 2.0.1/1", "find 2..0/1", "find 2/0.1",
     "find 2.-1/1", "find 2.+0/1", "find 2.18446744073709551616/1", "find 18446744073709551616.0/1",
     "find 2.0/18446744073709551616", "find 2.0/0.1", "find 2/.0/1", "find 2 .0/1", "rows 0 2./1", "judge 0 .0/1",
     "five 0 0 2.0.0/1", "pin", "pins", "pin 0", "pin book 24", "pin entries 0", "Pin book", "pin  book", "pinbook",
     "pin book ", "lend pins", "lend pins x", "lend pins 65537", "lend pins 1 1", "lend pin 1", "put pin", "put pin 0",
-    "put pin 24 1", "put pin 0 4294967296", "put pin 0 -1", "put pins 0 1", "put pin 18446744073709551615 1",
+    "put pin 24 1", "put pin 0 18446744073709551616", "put pin 0 -1", "put pins 0 1", "put pin 18446744073709551615 1",
     "target 0", "target ", "targets", "lend target", "lend target x", "lend target 262145", "lend target 1 1",
     "lend targets 1", "read", "read ", "read 0", "read 0g", "read - -", "read x", "write 1", "write ", "Write",
     "import", "import ", "import a b", "import /", "import /nonexistent/drawing", "export", "export ", "export a b", "export /",
@@ -49,14 +51,14 @@ fn talked(mut input: &[u8]) -> String {
     String::from_utf8(output).unwrap()
 }
 
-// Checks a list of commands and their answers; an answer `?` stands for any that begins with `? `.
+// Checks a list of commands and their answers; an answer `?` stands for any that begins with `? `, and N for none.
 fn check_all(console: &mut Console, script: &[(&str, &str)]) {
     for (command, wanted) in script {
         let answer = console.answer(command.as_bytes());
         if *wanted == "?" {
             assert!(answer.starts_with("? ") && answer.len() > 2, "{command}: {answer}");
         } else {
-            assert_eq!(answer, *wanted, "{command}");
+            assert_eq!(answer, wanted.replace('N', NONE), "{command}");
         }
     }
 }
@@ -108,9 +110,9 @@ fn board_t_through_every_call() {
         ("find 1/0", "0"),
         ("find 1/1", "none"),
         ("book", "found 2 of 6"),
-        ("entries", "entries 4294967295 4294967295 0 4294967295 0 4294967295"),
+        ("entries", "entries N N 0 N 0 N"),
         ("alter 2 03020000010000000000", "found 5 of 30"),
-        ("entries", "entries 4294967295 4294967295 4294967295 1 4294967295 0"),
+        ("entries", "entries N N N 1 N 0"),
         ("five 0 0 2/1", "drives 0"),
         ("show good 0", "row 020202"),
         ("refresh 0 0", "filled"),
@@ -127,7 +129,7 @@ fn board_t_through_every_call() {
 fn pins_through_every_call() {
     let load = format!("load {}", hex(&board_t()));
     let lent = format!("pins{}", " 99".repeat(24));
-    let none = |count: usize| " 4294967295".repeat(count);
+    let none = |count: usize| " N".repeat(count);
     let filled = format!("pins{} 0{} 1{} 0{}", none(9), none(6), none(1), none(5));
     let altered = format!("pins{} 1{} 0{} 1{}", none(8), none(8), none(1), none(4));
     let script = [
@@ -151,7 +153,7 @@ fn pins_through_every_call() {
         ("entries", "entries 99 99 99 99 99 99"),
         ("alter 2 03020000010000000000", "found 5 of 30"),
         ("pin entries", &altered[..]),
-        ("entries", "entries 4294967295 4294967295 4294967295 1 4294967295 0"),
+        ("entries", "entries N N N 1 N 0"),
     ];
     check_all(&mut Console::default(), &script);
 }
@@ -256,6 +258,28 @@ fn malformed() {
     assert!(console.answer(b"find \xFF/0").starts_with("? "));
 }
 
+// Every number fits an entry, and the largest alone is none, in both books; an alteration that touches nothing counts them.
+#[test]
+fn wide_entries() {
+    let loose = image(0, &[record(INPUT, &[]), record(INPUT, &[]), record(AND, &[0, 1])], &[0]);
+    let script = [
+        ("put entry 0 4294967295", "lent"),
+        ("put entry 1 18446744073709551615", "lent"),
+        ("put entry 2 18446744073709551614", "lent"),
+        ("put entry 3 4294967296", "lent"),
+        ("put pin 0 18446744073709551615", "lent"),
+        ("put pin 1 18446744073709551614", "lent"),
+        ("put pin 2 4294967295", "lent"),
+        ("put pin 3 18446744073709551616", "?"),
+        ("alter 2 05020000010000000000", "found 28 of 30"),
+        ("entries", "entries 4294967295 N 18446744073709551614 4294967296 99 99"),
+    ];
+    let pins = format!("pins N 18446744073709551614 4294967295{}", " 99".repeat(21));
+    let mut console = loaded(&loose);
+    check_all(&mut console, &script);
+    check_all(&mut console, &[("pin entries", &pins)]);
+}
+
 // The console's own limits, at the boundary.
 #[test]
 fn limits() {
@@ -268,11 +292,11 @@ fn limits() {
     let script = [
         ("lend rows 8192 8192", "lent"),
         ("lend book 16384", "lent"),
-        ("put entry 16383 4294967295", "lent"),
+        ("put entry 16383 18446744073709551615", "lent"),
         ("put entry 16384 0", "?"),
         ("put entry 0000 007", "lent"),
         ("lend pins 65536", "lent"),
-        ("put pin 65535 4294967295", "lent"),
+        ("put pin 65535 18446744073709551615", "lent"),
         ("put pin 65536 0", "?"),
         (put.as_str(), "lent"),
         (put_more.as_str(), "?"),

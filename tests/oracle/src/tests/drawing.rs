@@ -4,6 +4,7 @@ use super::*;
 use crate::calls;
 use crate::console::Console;
 use crate::drawing::{image_of, text_of};
+use crate::image::MOST_IMAGE;
 use std::collections::BTreeSet;
 
 /// The drawings of boards T, S and H.
@@ -15,7 +16,7 @@ const H: &str = "INPUT(n0)\nINPUT(n1)\nOUTPUT(n2)\nOUTPUT(n3)\nn2 = NOT(n0)\nn3 
 
 // Gives what the reader answers with room enough: `read`, or its refusal's one line.
 fn said(text: &[u8]) -> String {
-    calls::read(text, &mut [9; 6_000]).map_or_else(|refusal| refusal.to_string(), |_| "read".to_string())
+    calls::read(text, &mut [9; MOST_IMAGE]).map_or_else(|refusal| refusal.to_string(), |_| "read".to_string())
 }
 
 // Checks that a text is refused by 13 at this length.
@@ -113,11 +114,11 @@ fn boards_named() {
     assert_eq!(said(b""), "refused 2");
     assert_eq!(said(inputs(1).as_bytes()), "refused 2");
     assert_eq!(said(outputs(1).as_bytes()), "refused 2");
-    assert_eq!((board(512, 1), board(513, 1)), ("read".to_string(), "refused 2".to_string()));
+    assert_eq!((board(4_096, 1), board(4_097, 1)), ("read".to_string(), "refused 2".to_string()));
     assert_eq!((board(64, 64), board(65, 65)), ("read".to_string(), "refused 2".to_string()));
     assert_eq!(said((inputs(65_537) + &outputs(1)).as_bytes()), "refused 2");
     assert_eq!(said((inputs(1) + &outputs(1).repeat(65_537)).as_bytes()), "refused 2");
-    assert_eq!(said((inputs(25) + "OUTPUT(n99)\n").as_bytes()), "refused 4 at 24.0");
+    assert_eq!(said((inputs(33) + "OUTPUT(n99)\n").as_bytes()), "refused 4 at 32.0");
     assert_eq!(said(b"OUTPUT(n0)\nn0 = NOT(n0)\n"), "refused 4 at 0.2");
     assert_eq!(said(b"OUTPUT(n0)\nn0 = AND(n0)\n"), "refused 4 at 0.1");
     assert_eq!(said(b"INPUT(n0)\nOUTPUT(n9)\nn1 = AND(n0, n65535)\n"), "refused 4 at 1.3");

@@ -2,7 +2,7 @@
 
 use super::*;
 use crate::board::{self, Fault, D, D_BAR, X};
-use crate::calls;
+use crate::calls::{self, Entry};
 use crate::image::{decode, Board, Record};
 
 /// A small source of numbers that look random.
@@ -235,7 +235,7 @@ fn common(board: &Board, line: usize, other: usize) -> bool {
 }
 
 // Gives both books of an image, and how many of their entries are not none.
-fn both_books(image: &[u8]) -> (Vec<u32>, Vec<u32>, usize) {
+fn both_books(image: &[u8]) -> (Vec<Entry>, Vec<Entry>, usize) {
     let lines = decode(image).unwrap().lines();
     let (mut book, mut pins) = (vec![0; 2 * lines], vec![0; 8 * lines]);
     let found = calls::book(image, &mut book).unwrap() + calls::pin_book(image, &mut pins).unwrap();
@@ -256,7 +256,7 @@ fn pin_book_agrees() {
                 true => plain_find(&board, Fault::on_pin(line as u64, pin as u64, stuck as u8)),
                 false => None,
             };
-            assert_eq!(entry, wanted.map_or(calls::NONE, |pattern| pattern as u32));
+            assert_eq!(entry, wanted.unwrap_or(calls::NONE));
         }
     }
 }
@@ -283,8 +283,8 @@ fn pin_is_a_buffer() {
 }
 
 // Gives a book in which each entry has a number of its own that no search gives.
-fn marked(length: usize) -> Vec<u32> {
-    (0..length as u32).map(|place| 1_000_000 + place).collect()
+fn marked(length: usize) -> Vec<Entry> {
+    (0..length as u64).map(|place| 1_000_000 + place).collect()
 }
 
 // An alteration keeps right books right, leaves untouched entries alone and counts all entries of both books.
@@ -309,7 +309,7 @@ fn alterations() {
             for place in 0..own.len() {
                 let other = place / entries;
                 let touched = common(&before, other, line as usize) || common(&after, other, line as usize);
-                assert_eq!(own[place], if touched { fresh[place] } else { 1_000_000 + place as u32 });
+                assert_eq!(own[place], if touched { fresh[place] } else { 1_000_000 + place as u64 });
             }
         }
         assert_eq!(own_count, own_book.iter().chain(&own_pins).filter(|&&entry| entry != calls::NONE).count());

@@ -112,12 +112,12 @@ fn pin_book_length() {
     }
 }
 
-// The absent pins of 24 inputs are not searched for, and those of a gate neither.
+// The absent pins of 32 inputs are not searched for, and those of a gate neither.
 #[test]
 fn absent_pins_cost_nothing() {
-    let mut pins = [99; 200];
-    assert_eq!(calls::pin_book(&wide(24), &mut pins), Ok(2));
-    assert_eq!(pins, [vec![NONE; 192], vec![1, 0], vec![NONE; 6]].concat()[..]);
+    let mut pins = [99; 264];
+    assert_eq!(calls::pin_book(&wide(32), &mut pins), Ok(2));
+    assert_eq!(pins, [vec![NONE; 256], vec![1, 0], vec![NONE; 6]].concat()[..]);
 }
 
 // H with line 3 altered: entries on lines 1 and 3 are fresh, absent pins' too; those on 0 and 2 keep their numbers.

@@ -32,18 +32,18 @@ fn refusal_1() {
     assert_eq!(said(&[board_t(), vec![0]].concat()), "refused 1");
 }
 
-// Refusal 2: line count 0, 513 and more, output count 0, 65 and more; before refusal 3.
+// Refusal 2: line count 0, 4,097 and more, output count 0, 65 and more; before refusal 3.
 #[test]
 fn refusal_2() {
     assert_eq!(said(&t_with(32, &[0, 0])), "refused 2");
-    assert_eq!(said(&t_with(32, &[1, 2])), "refused 2");
-    assert_eq!(said(&t_with(32, &[0, 2])), "refused 3");
+    assert_eq!(said(&t_with(32, &[1, 16])), "refused 2");
+    assert_eq!(said(&t_with(32, &[0, 16])), "refused 3");
     assert_eq!(said(&t_with(32, &[255, 255])), "refused 2");
     assert_eq!(said(&t_with(34, &[0, 0])), "refused 2");
     assert_eq!(said(&t_with(34, &[65, 0])), "refused 2");
     assert_eq!(said(&t_with(34, &[64, 0])), "refused 3");
     assert_eq!(said(&t_with(34, &[1, 1])), "refused 2");
-    let records = vec![record(INPUT, &[]); 24];
+    let records = vec![record(INPUT, &[]); 32];
     assert_eq!(said(&image(0, &records, &[])), "refused 2");
 }
 
@@ -80,8 +80,8 @@ fn refusal_4_kind() {
     assert_eq!(said(&t_with(20, &[255, 255])), "refused 4 at 2.0");
     assert_eq!(said(&t_with(20, &[0; 10])), "refused 4 at 2.0");
     assert_eq!(said(&t_with(10, &[0; 10])), "good");
-    assert_eq!(said(&image(0, &vec![record(INPUT, &[]); 24], &[0])), "good");
-    assert_eq!(said(&image(0, &vec![record(INPUT, &[]); 25], &[0])), "refused 4 at 24.0");
+    assert_eq!(said(&image(0, &vec![record(INPUT, &[]); 32], &[0])), "good");
+    assert_eq!(said(&image(0, &vec![record(INPUT, &[]); 33], &[0])), "refused 4 at 32.0");
 }
 
 // Refusal 4, field 1: a count not allowed for the kind, for every kind.
@@ -197,8 +197,23 @@ fn judge_and_find_order() {
     assert_eq!(calls::find(&board_t(), Fault::on_line(3, 2)), Err(Refusal::Plain(6)));
     assert_eq!(calls::find(&board_t(), Fault::on_line(2, 2)), Err(Refusal::Plain(7)));
     assert_eq!(calls::find(&board_t(), Fault::on_line(2, 1)), Ok(None));
-    assert_eq!(calls::judge(&wide(24), (1 << 24) - 1, Fault::on_line(0, 0)), Ok(true));
-    assert_eq!(calls::judge(&wide(24), 1 << 24, Fault::on_line(0, 0)), Err(Refusal::Plain(8)));
+}
+
+// Refusal 8 at the most inputs: patterns of 32 bits are let in, of 33 and of 64 bits not, whatever their lower half.
+#[test]
+fn widest_patterns() {
+    let ask = |pattern: u64| calls::judge(&wide(32), pattern, Fault::on_line(0, 0));
+    assert_eq!(ask((1 << 32) - 1), Ok(true));
+    assert_eq!(ask(1 << 31), Ok(false));
+    for pattern in [1 << 32, (1 << 32) + 1, (1 << 33) - 1, 1 << 63, u64::MAX] {
+        assert_eq!(ask(pattern), Err(Refusal::Plain(8)));
+    }
+    let mut row = vec![7; 33];
+    let mut five = |named: u64, values: u64| calls::five(&wide(32), named, values, Fault::on_line(32, 0), &mut row);
+    assert_eq!(five((1 << 32) - 1, 1), Ok(1));
+    assert_eq!(five(1 << 32, 0), Err(Refusal::Plain(8)));
+    assert_eq!(five((1 << 32) - 1, 1 << 32), Err(Refusal::Plain(8)));
+    assert_eq!((row[0], row[31], row[32]), (1, 0, D));
 }
 
 // Book: 9 for any other length, and then the book keeps its entries.
@@ -326,7 +341,7 @@ fn program_refusals() {
     assert_eq!(program(&[]), "refused 1\n");
     assert_eq!(program(&t_with(24, &[2])), "refused 4 at 2.3\n");
     assert_eq!(program(&t_with(30, &[3])), "refused 5 at 0\n");
-    for note in [257, 5_516 - 44, 5_517 - 44, 70_000, 200_000] {
+    for note in [257, 5_517 - 44, 41_356 - 44, 41_357 - 44, 70_000, 200_000] {
         let long = |tail: Vec<u8>| program(&[vec![0x31; note], tail].concat());
         assert_eq!(long(board_t()), "refused 3\n");
         assert_eq!(long(t_with(43, &[0])), "refused 1\n");

@@ -2,7 +2,7 @@
 
 use super::*;
 use crate::board::{gate, gate_five, Fault, D, D_BAR, X};
-use crate::calls::{self, Counts, NONE};
+use crate::calls::{self, Counts, Entry, NONE};
 use crate::image::Refusal;
 use crate::text::book_text;
 
@@ -12,7 +12,7 @@ fn showing(image: &[u8], patterns: u64, fault: Fault) -> Vec<u64> {
 }
 
 // Gives the book of an image and its count.
-fn book(image: &[u8]) -> (Vec<u32>, usize) {
+fn book(image: &[u8]) -> (Vec<Entry>, usize) {
     let mut book = vec![99; 2 * calls::check(image).unwrap().lines];
     let found = calls::book(image, &mut book).unwrap();
     (book, found)
@@ -143,18 +143,22 @@ fn five_values_of_gates() {
     assert_eq!(gate_five(NOT, &[D]), D_BAR);
 }
 
-// 512 lines accepted, 513 refused 2.
+// 4,096 lines accepted, 4,097 refused 2.
 #[test]
 fn line_limit() {
-    assert_eq!(calls::check(&chain(512)), Ok(Counts { lines: 512, inputs: 1, outputs: 1 }));
-    assert_eq!(calls::check(&chain(513)), Err(Refusal::Plain(2)));
+    for lines in [512, 513, 4_096] {
+        assert_eq!(calls::check(&chain(lines)), Ok(Counts { lines, inputs: 1, outputs: 1 }));
+    }
+    assert_eq!(calls::check(&chain(4_097)), Err(Refusal::Plain(2)));
 }
 
-// A 25th input at line 24: refused 4, field 0.
+// A 33rd input at line 32: refused 4, field 0.
 #[test]
 fn input_limit() {
-    assert_eq!(calls::check(&wide(24)), Ok(Counts { lines: 25, inputs: 24, outputs: 1 }));
-    assert_eq!(calls::check(&wide(25)), Err(Refusal::BadRecord { line: 24, field: 0 }));
+    for inputs in [24, 25, 32] {
+        assert_eq!(calls::check(&wide(inputs)), Ok(Counts { lines: inputs + 1, inputs, outputs: 1 }));
+    }
+    assert_eq!(calls::check(&wide(33)), Err(Refusal::BadRecord { line: 32, field: 0 }));
 }
 
 // A note of 256 accepted, of 257 refused 3; the empty image refused 1.
@@ -174,15 +178,15 @@ fn pattern_limit() {
     assert_eq!(calls::judge(&board_t(), 2, Fault::on_line(2, 0)), Err(Refusal::Plain(8)));
 }
 
-// The longest good image has 5,516 bytes: all limits at once.
+// The longest good image has 41,356 bytes: all limits at once.
 #[test]
 fn longest_image() {
-    let mut records = vec![record(INPUT, &[]); 24];
-    records.resize(512, record(AND, &[0, 1, 2, 3]));
-    let outputs: Vec<u16> = (448..512).collect();
+    let mut records = vec![record(INPUT, &[]); 32];
+    records.resize(4_096, record(AND, &[0, 1, 2, 3]));
+    let outputs: Vec<u16> = (4_032..4_096).collect();
     let good = image(256, &records, &outputs);
-    assert_eq!(good.len(), 5_516);
-    assert_eq!(calls::check(&good), Ok(Counts { lines: 512, inputs: 24, outputs: 64 }));
+    assert_eq!(good.len(), 41_356);
+    assert_eq!(calls::check(&good), Ok(Counts { lines: 4_096, inputs: 32, outputs: 64 }));
     let longer = image(257, &records, &outputs);
     assert_eq!(book_text(&longer), "refused 3\n");
 }
