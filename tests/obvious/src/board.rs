@@ -1,7 +1,11 @@
 //! A board, decoded once from its image, and the obvious search: patterns from 0 upward, both boards in full for each.
 
+/// An entry of a book.
+pub type Entry = u64;
 /// The entry that says no pattern shows the fault.
-pub const NONE: u32 = 4_294_967_295;
+pub const NONE: Entry = 18_446_744_073_709_551_615;
+/// The most inputs a board has.
+const MOST_INPUTS: usize = 32;
 
 /// One line held at 0 or at 1, or with `pin` one pin of its gate.
 #[derive(Clone, Copy)]
@@ -59,7 +63,7 @@ impl Line {
     }
 
     // Gives the line's value at a place, from the pattern and the row below.
-    fn value(&self, place: usize, pattern: u32, row: &[u8]) -> u8 {
+    fn value(&self, place: usize, pattern: u64, row: &[u8]) -> u8 {
         if self.kind == 0 {
             return (pattern >> place & 1) as u8;
         }
@@ -87,7 +91,7 @@ impl Board {
         let lines: Vec<Line> = lists[..10 * lines].chunks(10).map(Line::of).collect();
         let outputs: Vec<usize> = lists[10 * lines.len()..].chunks(2).map(number).collect();
         let inputs = lines.iter().take_while(|line| line.kind == 0).count();
-        let good = (1..=24).contains(&inputs)
+        let good = (1..=MOST_INPUTS).contains(&inputs)
             && lines.iter().enumerate().all(|(place, line)| line.fits(place))
             && outputs.iter().all(|&output| output < lines.len());
         good.then(|| Board { lines, inputs, outputs })
@@ -111,7 +115,7 @@ impl Board {
     }
 
     // Fills the row with every line's value for a pattern, of the good board or of the one with the fault.
-    pub fn run(&self, pattern: u32, fault: Option<Fault>, row: &mut [u8]) {
+    pub fn run(&self, pattern: u64, fault: Option<Fault>, row: &mut [u8]) {
         for (place, line) in self.lines.iter().enumerate() {
             row[place] = match fault {
                 Some(fault) if fault.line == place => line.faulty_value(fault, row),
@@ -121,21 +125,21 @@ impl Board {
     }
 
     // Gives the smallest pattern below `end` that shows the fault, or NONE, and how many patterns were tried.
-    pub fn find(&self, fault: Fault, end: u32) -> (u32, u64) {
+    pub fn find(&self, fault: Fault, end: u64) -> (Entry, u64) {
         let mut good = vec![0; self.lines()];
         let mut faulty = vec![0; self.lines()];
         for pattern in 0..end {
             self.run(pattern, None, &mut good);
             self.run(pattern, Some(fault), &mut faulty);
             if self.outputs.iter().any(|&output| good[output] != faulty[output]) {
-                return (pattern, u64::from(pattern) + 1);
+                return (pattern, pattern + 1);
             }
         }
-        (NONE, u64::from(end))
+        (NONE, end)
     }
 
     // Gives the entries of these faults, trying at most so many patterns for each, and how many patterns were tried.
-    pub fn book(&self, faults: &[Option<Fault>], most: u32) -> (Vec<u32>, u64) {
+    pub fn book(&self, faults: &[Option<Fault>], most: u64) -> (Vec<Entry>, u64) {
         let end = most.min(1 << self.inputs);
         let mut tried = 0;
         let mut entries = Vec::new();

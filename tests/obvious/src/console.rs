@@ -1,6 +1,6 @@
 //! The commands of the bench console that a book needs, with the console's answers.
 
-use crate::board::{Board, Fault, NONE};
+use crate::board::{Board, Entry, Fault, NONE};
 use std::io::{self, BufRead, Write};
 use std::time::Instant;
 
@@ -8,9 +8,9 @@ use std::time::Instant;
 #[derive(Default)]
 pub struct Console {
     board: Option<Board>,
-    book: Vec<u32>,
-    pins: Vec<u32>,
-    part: Option<u32>,
+    book: Vec<Entry>,
+    pins: Vec<Entry>,
+    part: Option<u64>,
 }
 
 // Gives the bytes of a word of two digits a byte.
@@ -21,13 +21,13 @@ fn bytes(hex: &str) -> Option<Vec<u8>> {
 }
 
 // Gives a book's numbers on one line.
-fn listed(name: &str, entries: &[u32]) -> String {
+fn listed(name: &str, entries: &[Entry]) -> String {
     entries.iter().fold(name.to_string(), |line, entry| line + " " + &entry.to_string())
 }
 
 impl Console {
     // Gives a console that tries all patterns, or that tries so many of them for each fault.
-    pub fn new(part: Option<u32>) -> Console {
+    pub fn new(part: Option<u64>) -> Console {
         Console { part, ..Console::default() }
     }
 
@@ -46,13 +46,13 @@ impl Console {
     }
 
     // Fills a book, and gives how many of its entries are not none, or in part how many patterns were tried in what time.
-    fn fill(&mut self, faults: fn(&Board) -> Vec<Option<Fault>>, book: fn(&mut Console) -> &mut Vec<u32>) -> String {
+    fn fill(&mut self, faults: fn(&Board) -> Vec<Option<Fault>>, book: fn(&mut Console) -> &mut Vec<Entry>) -> String {
         let board = match &self.board {
             None => return "? no board".to_string(),
             Some(board) => board,
         };
         let start = Instant::now();
-        let (entries, tried) = board.book(&faults(board), self.part.unwrap_or(u32::MAX));
+        let (entries, tried) = board.book(&faults(board), self.part.unwrap_or(u64::MAX));
         let seconds = start.elapsed().as_secs_f64();
         let found = entries.iter().filter(|&&entry| entry != NONE).count();
         let length = entries.len();

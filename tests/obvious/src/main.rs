@@ -21,7 +21,7 @@ use console::Console;
 use std::io;
 
 // Gives how many patterns to try for a fault, where the arguments say so, or nothing where they can't be read.
-fn part(words: &[String]) -> Option<Option<u32>> {
+fn part(words: &[String]) -> Option<Option<u64>> {
     match words {
         [] => Some(None),
         [word, patterns] if word == "part" => patterns.parse().ok().map(Some),

@@ -7,24 +7,24 @@ const T: &str = "000000000000000000000201000000000000000005020000010000000000020
 const H: &str = "0000000000000000000000000000000000000000020100000000000000000101010000000000000002000300 04000200 38000000 42524431";
 
 // Gives the answers of a console to `load` of an image and then to these commands.
-fn answers(part: Option<u32>, image: &str, commands: &[&str]) -> Vec<String> {
+fn answers(part: Option<u64>, image: &str, commands: &[&str]) -> Vec<String> {
     let mut console = Console::new(part);
     console.answer(&format!("load {}", image.replace(' ', "")));
     commands.iter().map(|command| console.answer(command)).collect()
 }
 
 // Gives the image of inputs and then gates, each a kind and its pins, with its last line the one output.
-fn image(inputs: usize, gates: &[(u8, &[u8])]) -> Vec<u8> {
-    let lines = (inputs + gates.len()) as u8;
+fn image(inputs: usize, gates: &[(u8, &[u16])]) -> Vec<u8> {
+    let lines = (inputs + gates.len()) as u16;
     let mut image = vec![0; 10 * inputs];
     for (kind, pins) in gates {
         let mut record = [0; 10];
         record[0] = *kind;
         record[1] = pins.len() as u8;
-        pins.iter().enumerate().for_each(|(i, pin)| record[2 + 2 * i] = *pin);
+        pins.iter().enumerate().for_each(|(i, pin)| record[2 + 2 * i..4 + 2 * i].copy_from_slice(&pin.to_le_bytes()));
         image.extend(record);
     }
-    image.extend([lines - 1, 0, lines, 0, 1, 0]);
+    [lines - 1, lines, 1].iter().for_each(|number| image.extend(number.to_le_bytes()));
     image.extend((10 * u32::from(lines) + 14).to_le_bytes());
     image.extend([0x42, 0x52, 0x44, 0x31]);
     image
@@ -32,16 +32,16 @@ fn image(inputs: usize, gates: &[(u8, &[u8])]) -> Vec<u8> {
 
 // Gives board S of document 01.
 fn board_s() -> Board {
-    let pins: [&[u8]; 8] = [&[1, 2], &[4, 0], &[4, 3], &[0, 2], &[7, 1], &[1, 3], &[9, 2], &[5, 6, 8, 10]];
-    let gates: Vec<(u8, &[u8])> = pins.iter().map(|&pins| (6, pins)).collect();
+    let pins: [&[u16]; 8] = [&[1, 2], &[4, 0], &[4, 3], &[0, 2], &[7, 1], &[1, 3], &[9, 2], &[5, 6, 8, 10]];
+    let gates: Vec<(u8, &[u16])> = pins.iter().map(|&pins| (6, pins)).collect();
     Board::of(&image(4, &gates)).unwrap()
 }
 
 // Gives the value of one gate of a kind on inputs that hold these values.
 fn gate(kind: u8, values: &[u8]) -> u8 {
-    let pins: Vec<u8> = (0..values.len() as u8).collect();
+    let pins: Vec<u16> = (0..values.len() as u16).collect();
     let board = Board::of(&image(values.len(), &[(kind, &pins)])).unwrap();
-    let pattern = values.iter().rev().fold(0, |pattern, &value| 2 * pattern + u32::from(value));
+    let pattern = values.iter().rev().fold(0, |pattern, &value| 2 * pattern + u64::from(value));
     let mut row = vec![9; values.len() + 1];
     board.run(pattern, None, &mut row);
     row[values.len()]
@@ -50,7 +50,7 @@ fn gate(kind: u8, values: &[u8]) -> u8 {
 #[test]
 fn books_of_t_are_the_papers() {
     let said = answers(None, T, &["entries", "book", "entries", "pin book", "pin entries"]);
-    let with_none = |line: &str| line.replace('x', "4294967295");
+    let with_none = |line: &str| line.replace('x', "18446744073709551615");
     assert_eq!(said[0], "entries 99 99 99 99 99 99");
     assert_eq!(said[1], "found 2 of 6");
     assert_eq!(said[2], with_none("entries x x 0 x 0 x"));
@@ -73,6 +73,23 @@ fn line_4_of_s_is_shown_by_the_papers_patterns() {
 }
 
 #[test]
+fn the_largest_boards_are_taken() {
+    let on = |line, stuck| Fault { line, pin: None, stuck };
+    let buffer: &[(u8, &[u16])] = &[(1, &[11])];
+    let wide = Board::of(&image(32, buffer)).unwrap();
+    assert_eq!(wide.find(on(32, 1), 1 << 32), (0, 1));
+    assert_eq!(wide.find(on(11, 0), 1 << 32), (2048, 2049));
+    assert!(Board::of(&image(33, buffer)).is_none());
+    let pins: Vec<[u16; 1]> = (0..4095).map(|pin| [pin]).collect();
+    let chain: Vec<(u8, &[u16])> = pins.iter().map(|pin| (1, &pin[..])).collect();
+    let long = Board::of(&image(1, &chain)).unwrap();
+    assert_eq!((long.find(on(0, 0), 2), long.find(on(4095, 1), 2)), ((1, 2), (0, 1)));
+    let mut row = vec![9; 33];
+    wide.run((1 << 31) + (1 << 11), None, &mut row);
+    assert_eq!((row[11], row[30], row[31], row[32]), (1, 0, 1, 1));
+}
+
+#[test]
 fn every_kind_has_its_value() {
     let ones = |kind, count: usize| -> Vec<u8> {
         (0..=count).map(|ones| gate(kind, &[vec![1; ones], vec![0; count - ones]].concat())).collect()
@@ -88,7 +105,7 @@ fn every_kind_has_its_value() {
 fn part_of_a_book_says_how_many_patterns_were_tried() {
     let said = answers(Some(1), T, &["book", "entries", "pin book"]);
     assert!(said[0].starts_with("tried 6 patterns in "), "{}", said[0]);
-    assert_eq!(said[1], "entries 4294967295 4294967295 0 4294967295 0 4294967295");
+    assert_eq!(said[1], "entries x x 0 x 0 x".replace('x', "18446744073709551615"));
     assert!(said[2].starts_with("tried 6 patterns in "), "{}", said[2]);
     assert!(answers(Some(9), T, &["book"])[0].starts_with("tried 10 patterns in "));
 }
