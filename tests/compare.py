@@ -5,9 +5,9 @@
     tests/compare.py --seed 7 --commands 2000000      millions of commands, from another seed
 
 It prints how often each answer and each refusal of each command arose, of accepted alterations each sort of board, altered line and
-touched line, of exclusive-ors of three and four pins each call with a fault there, x on each pin by itself and three pins at 1, and of
-drawings where in a statement they departed from the form. It fails where one of these arose fewer than 20 times. Its last line is
-'N passed, M failed', where a part of a script counts one.
+touched line, of exclusive-ors of three and four pins each call with a fault there, x on each pin by itself and three pins at 1, of
+drawings where in a statement they departed from the form, and of boards of over 512 lines and of over 24 inputs each call, accepted and
+refused. It fails where one of these arose fewer than 20 times. Its last line is 'N passed, M failed', where a part of a script counts one.
 """
 import argparse
 import collections
@@ -41,6 +41,9 @@ ON_FAULT = [word.decode() + pin for word in WITH_FAULT for pin in ("", " pin")]
 # the table's rows of exclusive-ors, by their pins
 XORS = {n: f"xor of {n} pins" for n in (3, 4)}
 IMAGE = [str(n) for n in range(1, 6)]
+# calls that the table counts on large boards too, accepted and refused; a book of many inputs takes too long to be filled
+ON_LARGE = "rows judge find alter refresh five".split()
+REFUSED_ON_LARGE = [f"{call} refused" for call in (*ON_LARGE, "book", "pin book")]
 # where in the form a drawing departs from it, by what its last statement has begun with
 DEPARTURES = {
     "before a statement": rb"",
@@ -102,10 +105,16 @@ CAN_ANSWER = {
                 *(f"through pin {pin} only" for pin in range(4))],
     "a pattern": ["of the first word", "of the first block", "of a later block"],
     "a departure": [*DEPARTURES, "at the end"],
+    "> 512 lines": [*ON_LARGE, "book", "pin book", "write", "read", "import", "export", *REFUSED_ON_LARGE, "write refused"],
+    "> 24 inputs": [*ON_LARGE, "pin book", "write", *REFUSED_ON_LARGE],
+    "a limit": ["4096 lines", "4097 lines", "32 inputs", "a 33rd input"],
+    "of 32 inputs": [f"a pattern of {bits} bits" for bits in (32, 33, 64)],
+    "an entry put": [str(entry) for entry in scripts.EDGES],
     **{name: [*ON_FAULT, "three at 1", *(f"x on pin {pin} only" for pin in range(n))] for n, name in XORS.items()},
 }
 # rows of the table that say more of an answer that another row has counted
-CLOSER = ("a bad record", "alter's 9", "altered board", "altered line", "touched", "a pattern", "a departure", *XORS.values())
+CLOSER = ("a bad record", "alter's 9", "altered board", "altered line", "touched", "a pattern", "a departure", "> 512 lines", "> 24 inputs", "a limit", "of 32 inputs",
+          "an entry put", *XORS.values())
 FIXED = (b"? line too long", b"? cannot read")
 
 
@@ -223,21 +232,21 @@ def held_against(seed, number, commands, product, oracle, timeout=TIMEOUT):
 
 
 def lent_after(lent, command, answer):
-    """The line count and the lengths of both lent books after a command, from those before it."""
-    lines, book, pins = lent
+    """The line and input counts and the lengths of both lent books after a command, from those before it."""
+    lines, inputs, book, pins = lent
     words = answer[:40].split(b" ")
     taken = words[0] == b"board" and command.startswith(b"import ")
     if taken or words[0] in (b"board", b"refused") and command.startswith((b"load ", b"open ")):
-        lines = int(words[1]) if words[0] == b"board" else 0
-        return lines, 2 * lines, 8 * lines
+        lines, inputs = (int(words[1]), int(words[3])) if words[0] == b"board" else (0, 0)
+        return lines, inputs, 2 * lines, 8 * lines
     if answer == b"lent" and command.startswith(b"lend book "):
         book = int(command[10:])
     if answer == b"lent" and command.startswith(b"lend pins "):
         pins = int(command[10:])
-    return lines, book, pins
+    return lines, inputs, book, pins
 
 
-def wrong_books(lines, book, pins):
+def wrong_books(lines, _inputs, book, pins):
     """Which of the lent books has the wrong length, where one has."""
     return "both books" if book != 2 * lines and pins != 8 * lines else "line book" if book != 2 * lines else "pin book"
 
@@ -315,13 +324,42 @@ def of_departure(text, length):
     return next(name for name, form in DEPARTURES.items() if re.fullmatch(form, begun))
 
 
+def of_size(name, command, answer, lines, inputs):
+    """What the table counts of an answer on a large board: the kept one, or the one that was read."""
+    if name == "read":
+        text = bytes.fromhex(command[5:].decode()) if answer.startswith(b"read ") else b""
+        lines, inputs = text.count(b" = ") + text.count(b"INPUT("), text.count(b"INPUT(")
+    call = (name.removesuffix(" pin") if name in ON_FAULT else name) + (" refused" if answer.startswith(b"refused ") else "")
+    large = {"> 512 lines": lines > 512, "> 24 inputs": inputs > 24}
+    return [(row, call) for row, holds in large.items() if holds and not answer.startswith(b"? ")]
+
+
+def of_limit(name, command, answer, inputs):
+    """What the table counts at the limits: boards that just pass and that just do not, wide patterns of 32 inputs, and entries that are put."""
+    words = command.split(b" ")
+    if answer.startswith(b"board "):
+        return [("a limit", f) for f in ("4096 lines", "32 inputs") if f.encode() in answer]
+    if answer == b"refused 2" and name == "load":
+        return [("a limit", "4097 lines")] * (int.from_bytes(bytes.fromhex(command[-24:-20].decode()), "little") == 4097)
+    if answer == b"refused 4 at 32.0":
+        return [("a limit", "a 33rd input")]
+    if name in ("put entry", "put pin") and answer == b"lent":
+        return [("an entry put", str(int(words[3])))]
+    if inputs == 32 and name in (*ON_FAULT, "refresh") and answer[:1] != b"?" and not name.startswith("find"):
+        bits = int(words[2 if name == "refresh" else 1]).bit_length()
+        return [("of 32 inputs", f"a pattern of {bits} bits")] * (answer == b"refused 8" if bits > 32 else not answer.startswith(b"refused "))
+    return []
+
+
 def counted(commands, answered):
     """How often each form of answer of each command arose."""
-    counts, lent, image, filled = collections.Counter(), (0, 0, 0), None, False
+    counts, lent, image, filled = collections.Counter(), (0, 0, 0, 0), None, False
     for command, answer in zip(commands, answered):
         name = command_name(command, answer)
         counts[name, form(command, answer)] += 1
         lent = lent_after(lent, command, answer)
+        large = of_size(name, command, answer, *lent[:2]) + of_limit(name, command, answer, lent[1])
+        counts.update((row, f) for row, f in large if f in CAN_ANSWER[row])
         if answer.startswith(b"refused 4 at "):
             counts["a bad record", "field " + answer.decode().rsplit(".", 1)[1]] += 1
         if name.startswith("find") and answer.isdigit():

@@ -53,7 +53,8 @@ def drawing(board):
 
 def any_board(rng):
     """A board of any size for a drawing, most of them small."""
-    return rng.choice((shapes.small, shapes.small, shapes.small, shapes.middle, shapes.middle, shapes.wide, shapes.strands, shapes.large))(rng)
+    sizes = (shapes.small,) * 6 + (shapes.middle,) * 4 + (shapes.wide,) * 2 + (shapes.strands, shapes.large, shapes.large)
+    return rng.choice(sizes)(rng)
 
 
 def tiny(rng):
@@ -112,15 +113,16 @@ def outputs_miscounted(rng, board):
 
 
 def too_many_lines(rng, board):
-    """Refusal 2: 513 lines and more, of gates and of inputs."""
-    few = rng.randint(1, 3)
-    return rng.choice((shapes.chain(rng, few, 513 - few), shapes.Board([shapes.INPUT] * 513, board.outputs), shapes.chain(rng, 1, 768)))
+    """Refusal 2: 4,097 lines and more, of gates and of inputs."""
+    few, more = rng.randint(1, 3), shapes.MOST_LINES + rng.choice((1, 1, 256))
+    gates = [(make.NOT, (0,))] * (shapes.MOST_LINES + 1 - few)
+    return rng.choice((shapes.Board([shapes.INPUT] * few + gates, board.outputs), shapes.Board([shapes.INPUT] * more, board.outputs)))
 
 
 def too_many_inputs(rng, _board):
-    """Refusal 4, field 0: a 25th input."""
-    inputs = rng.choice((25, 25, 26, 40))
-    return shapes.Board([shapes.INPUT] * inputs + [(make.AND, (0, 23))] * rng.randrange(2), [24])
+    """Refusal 4, field 0: a 33rd input."""
+    inputs = shapes.MOST_INPUTS + rng.choice((1, 1, 2, 8))
+    return shapes.Board([shapes.INPUT] * inputs + [(make.AND, (0, 31))] * rng.randrange(2), [32])
 
 
 def pins_miscounted(rng, board):
@@ -134,9 +136,9 @@ def pin_too_high(rng, board):
     """Refusal 4, fields 2 to 5: a pin not below its own line."""
     line, kind = rng.randrange(board.inputs, board.lines + 1), rng.randrange(make.AND, make.XNOR + 1)
     pins = [rng.randrange(line) for _ in range(rng.choice((2, 3, 4, 4, 4)))]
-    at = rng.randrange(len(pins))
+    at, too_high = rng.randrange(len(pins)), (line, line + 1, shapes.MOST_LINES - 1, shapes.MOST_LINES, 65535, line + 256)
     for pin in range(at, len(pins)):
-        pins[pin] = rng.choice((line, line + 1, 511, 512, 65535, line + 256)) if pin == at or rng.random() < 0.2 else pins[pin]
+        pins[pin] = rng.choice(too_high) if pin == at or rng.random() < 0.2 else pins[pin]
     return shapes.Board([*board.records[:line], (kind, tuple(pins)), *board.records[line + 1:]], board.outputs)
 
 
@@ -170,18 +172,20 @@ def many(inputs, gates):
 
 
 def longest():
-    """The drawing of a board of 512 lines and 64 outputs, with four pins a gate."""
-    records = [shapes.INPUT] * 4 + [(make.NAND, (line - 1, line - 2, line - 3, line - 4)) for line in range(4, 512)]
-    return drawing(shapes.Board(records, range(448, 512)))
+    """The longest drawing there is: of the most lines and 64 outputs, with four pins a gate."""
+    lines = shapes.MOST_LINES
+    records = [shapes.INPUT] * 4 + [(make.XNOR, (line - 1, line - 2, line - 3, line - 4)) for line in range(4, lines)]
+    return drawing(shapes.Board(records, range(lines - 64, lines)))
 
 
 @functools.lru_cache(maxsize=1)
 def files():
     """The files of drawings that scripts import: a small one, and large ones up to 1,048,576 bytes and over."""
     most = 1_048_576
-    return {"board.txt": drawing(shapes.board_of(make.S)), "longest.txt": longest(), "inputs.txt": many(65_537, 0), "lines.txt": many(60_000, 5_537),
+    return {"board.txt": drawing(shapes.board_of(make.S)), "longest.txt": longest(), "one-more.txt": many(1, shapes.MOST_LINES),
+            "inputs.txt": many(65_537, 0), "lines.txt": many(60_000, 5_537),
             "outputs.txt": b"INPUT(n0)\n" + b"OUTPUT(n0)\n" * 65_537, "most.txt": exactly(most), "late.txt": exactly(most)[:-1] + b"\r",
             "garbage.txt": b"INPUT(n0)\nOUTPUT(n0)\n" + bytes(range(256)) * 4_000, "over.txt": exactly(most + 1)}
 
 
-LARGE = ("longest.txt", "inputs.txt", "lines.txt", "outputs.txt", "most.txt", "late.txt", "garbage.txt", "over.txt")
+LARGE = ("longest.txt", "one-more.txt", "inputs.txt", "lines.txt", "outputs.txt", "most.txt", "late.txt", "garbage.txt", "over.txt")

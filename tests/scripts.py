@@ -9,9 +9,11 @@ import random
 
 import drawings
 import shapes
-from shapes import make
+from shapes import MOST_LINES, NONE, make
 
 TOP = 2**64 - 1
+# entries at the edges: the largest pattern there can be, the mark for none, and one less
+EDGES = (2**32 - 1, NONE, NONE - 1)
 # the credit in gate values that each command earns for searches, so that a script's time grows with its length alone
 CREDIT = 15_000
 # how many entries an alteration of a board with many outputs may touch, so that the time goes to many alterations
@@ -169,7 +171,7 @@ class Script:
     def bad_line(self):
         """A line at or past the line count; some would be good were they cut to 8, 16 or 32 bits."""
         n = self.board.lines
-        return self.rng.choice((n, n, n + 1, max(n, 256), 512, 65535, 65536, 2**32, 2**32 + 1, 2**63, 10**18, TOP))
+        return self.rng.choice((n, n, n + 1, max(n, 256), max(n, 512), MOST_LINES, 65535, 65536, 2**32, 2**32 + 1, 2**63, 10**18, TOP))
 
     def bad_stuck(self):
         """A stuck value over 1; some would be good were they cut to 8 or 32 bits."""
@@ -183,7 +185,7 @@ class Script:
     def bad_pattern(self):
         """A pattern with a bit at or above the input count."""
         high = 1 << self.board.inputs
-        return self.rng.choice((high, high, high + self.pattern(), 2**32, 2**32 + 1, 2**63, TOP, 2**24))
+        return self.rng.choice((high, high, high + self.pattern(), 2**32, 2**32 + 1, 2**33 - 1, 2**63, TOP, max(high, 2**24)))
 
     def partial(self):
         """A partial pattern: which inputs are named, and values there alone."""
@@ -286,7 +288,7 @@ def every_row(s):
 
 
 def largest(s):
-    """Boards of up to 512 lines and 64 outputs through the calls that search little, and whole books where their time is at hand."""
+    """Boards of some hundred lines and up to 64 outputs through the calls that search little, and whole books where their time is at hand."""
     s.load(shapes.large(s.rng))
     s.find(*s.any_fault())
     s.rows(s.pattern(), *s.any_fault())
@@ -297,7 +299,7 @@ def largest(s):
 
 
 def many_inputs(s):
-    """Boards of up to 24 inputs: find only where an early pattern shows the fault, alter only where nothing is touched."""
+    """Boards of up to 32 inputs: find only where an early pattern shows the fault, alter only where nothing is touched."""
     board = shapes.wide(s.rng)
     s.load(board)
     for _ in range(3):
@@ -312,10 +314,100 @@ def many_inputs(s):
             s.say("find", s.fault(output, 0))
     last = board.lines - 1
     s.say("find", s.fault(last, s.stuck(), s.bad_pin(last)))
-    s.say("put entry", s.rng.randrange(2 * board.lines), s.rng.choice((7, 2**32 - 1)))
-    s.say("put pin", 8 * last + s.rng.randrange(8), s.rng.choice((7, 2**32 - 1)))
+    s.say("put entry", s.rng.randrange(2 * board.lines), s.rng.choice((7, *EDGES)))
+    s.say("put pin", 8 * last + s.rng.randrange(8), s.rng.choice((7, *EDGES)))
     s.say("alter", last, shapes.packed(shapes.good_record(s.rng, last)))
     s.look("entries", "pin entries", "image")
+
+
+def bigger(s):
+    """A board of over 512 lines through the calls that search little, with good arguments and with bad ones, and lent lengths one off."""
+    s.load(shapes.bigger(s.rng))
+    n = s.board.lines
+    for bad in (0, 0, 0.2, 0.6):
+        fault, pattern, partial = s.mixed_arguments(bad)
+        s.rows(pattern, *fault)
+        s.judge(pattern, *fault)
+        s.say("find", s.fault(*fault))
+        s.five(*partial, *fault)
+        s.say("put good", bytes(s.stuck() for _ in range(n)))
+        s.refresh(fault[0], pattern)
+    s.say("show", s.rng.choice(("good", "faulty")), s.rng.choice((n - 1, n, MOST_LINES - 1, s.line())))
+    s.say("lend rows", *s.rng.choice(((n + 1, n), (n, n - 1), (n - 1, n), (512, 512))))
+    s.rows(s.pattern(), *s.any_fault())
+    s.refresh(s.line(), s.pattern())
+    s.five(*s.partial(), *s.any_fault())
+    for book, pins in ((1, 0), (-1, -1), (0, 1)):
+        s.say("lend book", 2 * n + book)
+        s.say("lend pins", 8 * n + pins)
+        s.look(*["book"] * (book != 0), *["pin book"] * (pins != 0))
+        s.say("alter", n - 1, shapes.packed(s.board.records[-1]))
+    s.look("check")
+
+
+def bigger_books(s):
+    """Both books of a board of over 512 lines, whole, before alterations of it and after them."""
+    s.load(shapes.bigger(s.rng, 800))
+    s.look("book", "entries", "pin book", "pin entries")
+    for line, record in ((s.gate(), None), (s.board.lines - 1, None), (s.gate(), make.record(make.INPUT)), (s.bad_line(), make.record(make.NOT, 0))):
+        plant_entries(s)
+        s.say("alter", line, record or shapes.packed(shapes.good_record(s.rng, line)))
+    s.look("entries", "pin entries", "image", "book", "entries", "pin book", "pin entries")
+
+
+def bigger_drawings(s):
+    """A board of over 512 lines drawn and read again: through a target and by a file. A text of over 65,536 bytes can come from a file alone."""
+    s.load(shapes.bigger(s.rng))
+    text, path = drawings.drawing(s.board), s.rng.choice(EXPORTED)
+    for lent in (len(text), len(text) - 1):
+        s.say("lend target", lent)
+        s.write()
+    s.say("export", path)
+    s.load(shapes.small(s.rng))
+    s.say("import", path)
+    s.look("image")
+    board = shapes.bigger(s.rng, 1500)
+    for short in (1, 0):
+        s.say("lend target", len(board.image()) - len(board.note) - short)
+        s.read(drawings.drawing(board))
+
+
+def early_patterns(s):
+    """Boards of over 24 inputs where an early pattern shows every fault that is asked for or touched; and inputs alone, which have no pins."""
+    s.load(shapes.early(s.rng))
+    for _ in range(3):
+        line, stuck = s.rng.randrange(s.board.inputs, s.board.lines), s.stuck()
+        pin = s.pin(line)
+        for fault in ((line, stuck), (line, stuck, pin), (s.board.records[line][1][pin], stuck)):
+            s.say("find", s.fault(*fault))
+        plant_entries(s)
+        record = early_record(s, line)
+        s.say("alter", line, shapes.packed(record))
+        s.look("entries", "pin entries")
+        s.board.records[line] = record
+        bad = s.rng.choice(((s.bad_line(), stuck), (line, s.bad_stuck()), (line, stuck, s.bad_pin(line))))
+        s.say("find", s.fault(*bad))
+        s.say("alter", line, s.rng.choice((make.record(make.INPUT), make.record(make.NOT, line), make.record(make.AND, 0), make.record(9, 0))))
+    for pattern in (s.pattern(), s.bad_pattern(), s.rng.choice((2**63, TOP))):
+        s.judge(pattern, *s.any_fault())
+        s.rows(pattern, *s.any_fault())
+    s.say("lend target", 1_000)
+    s.write()
+    s.say("lend book", 2 * s.board.lines - 1)
+    s.say("lend pins", 8 * s.board.lines + 1)
+    s.look("book", "pin book", "entries", "pin entries")
+    s.load(shapes.Board([shapes.INPUT] * s.board.inputs, [s.board.inputs - 1]))
+    s.look("pin book", "pin entries")
+
+
+def early_record(s, line):
+    """Another record for a gate of such a board: an input that it no longer reads is read by another gate."""
+    others = {pin for other, (_, pins) in enumerate(s.board.records) if other != line for pin in pins}
+    while True:
+        kind = s.rng.randrange(1, 9)
+        pins = tuple(s.rng.sample(range(7), shapes.pin_count(s.rng, kind)))
+        if others.union(pins).issuperset(s.board.records[line][1]):
+            return kind, pins
 
 
 def refusals(s):
@@ -441,9 +533,9 @@ def random_image(s):
 def plant_entries(s):
     """Puts a few numbers, most of them wrong, in entries of both books, absent pins' too."""
     for _ in range(s.rng.randrange(3)):
-        s.say("put entry", s.rng.randrange(2 * s.board.lines), s.rng.choice((0, 1, 99, 2**32 - 1, 2**32 - 2, s.pattern())))
+        s.say("put entry", s.rng.randrange(2 * s.board.lines), s.rng.choice((0, 1, 99, *EDGES, 2**32, s.pattern())))
     for _ in range(s.rng.randrange(3)):
-        s.say("put pin", s.rng.randrange(8 * s.board.lines), s.rng.choice((0, 1, 99, 2**32 - 1, 2**32 - 2, s.pattern())))
+        s.say("put pin", s.rng.randrange(8 * s.board.lines), s.rng.choice((0, 1, 99, *EDGES, 2**32, s.pattern())))
 
 
 def good_alteration(s, line):
@@ -506,8 +598,8 @@ def bench_sheet(s):
                                 (make.S, 4, make.record(make.OR, 1, 2))):
         s.say("load", image)
         s.look("book", "entries", "pin book", "pin entries")
-        s.say("put entry 0", s.rng.choice((99, 2**32 - 1)))
-        s.say("put pin", s.rng.choice((0, 8 * line + s.rng.randrange(8), 16)), s.rng.choice((99, 2**32 - 1)))
+        s.say("put entry 0", s.rng.choice((99, *EDGES)))
+        s.say("put pin", s.rng.choice((0, 8 * line + s.rng.randrange(8), 16)), s.rng.choice((99, *EDGES)))
         for pin in (None, 0, 1, 2):
             s.say("find", s.fault(line, s.stuck(), pin))
         s.say("alter", line, record)
@@ -569,7 +661,7 @@ def gate_tables(s):
     pins = [chosen for count in (2, 3, 4) for chosen in itertools.product(range(5), repeat=count)]
     gates = [(kind, (pin,)) for kind in (1, 2) for pin in range(5)] + [(kind, chosen) for kind in range(3, 9) for chosen in pins]
     s.rng.shuffle(gates)
-    most = 512 - 5
+    most = MOST_LINES - 5
     for start in range(0, len(gates), most):
         records = [shapes.INPUT] * 4 + [(make.NOT, (3,))] + gates[start:start + most]
         s.load(shapes.Board(records, sorted(s.rng.sample(range(len(records)), 64))))
@@ -656,8 +748,8 @@ def lengths(s):
     n = s.board.lines
     for name, entries in (("put entry", 2 * n), ("put pin", 8 * n)):
         for place in (0, entries - 1, entries, s.rng.choice((2**32, 2**32 + 1, TOP))):
-            s.say(name, place, s.rng.choice((5, 2**32 - 1)))
-            s.say(name, place, s.rng.choice((2**32, 2**32 + 5, TOP)))
+            s.say(name, place, s.rng.choice((5, 2**32, 2**32 + 5)))
+            s.say(name, place, s.rng.choice((*EDGES, TOP + 1)))
     s.look("entries", "pin entries")
     s.say("lend rows", *s.rng.choice(((8192, 8192), (8193, 1), (1, 8193), (0, 0), (TOP, 1), (2**32, 2**32), (7, 8193))))
     s.say("put", s.rng.choice(("good", "faulty")), bytes(s.rng.choice((8191, 8192, 8193))))
@@ -679,7 +771,7 @@ def long_lines(s):
         s.look("check", s.rng.choice(LOOKS).decode())
     if s.rng.random() < 0.4:
         image = s.board.image()
-        s.say("load", bytes(s.rng.choice((65_536, 65_537, 5_517, 65_535)) - len(image)) + image)
+        s.say("load", bytes(s.rng.choice((65_536, 65_537, 41_356, 41_357, 65_535)) - len(image)) + image)
         s.look("check", "show good 0", "entries", "pin entries")
 
 
@@ -831,7 +923,7 @@ def drawing_lengths(s):
 
 
 def large_drawings(s):
-    """Drawings of 512 lines, of 65,537 inputs, lines and outputs, and of up to 1,048,576 bytes and one more, from files."""
+    """Drawings of 4,096 lines and of one more, of 65,537 inputs, lines and outputs, and of up to 1,048,576 bytes and one more, from files."""
     s.load(shapes.small(s.rng))
     for path in s.rng.sample(drawings.LARGE, 2):
         s.say("import", path)
@@ -839,10 +931,12 @@ def large_drawings(s):
 
 
 # the parts that every script begins and ends with, and each sort of part between them and how often it comes
-FIRST, LAST = (before_load, gate_tables), (exclusive_ors,) + (few_shared,) * 3 + (refused_drawings, drawing_files, large_drawings)
+FIRST = (before_load, gate_tables)
+LAST = ((exclusive_ors,) + (few_shared,) * 3 + (refused_drawings, drawing_files, large_drawings, bigger, bigger_books) + (bigger_drawings,) * 2
+        + (early_patterns,))
 PARTS = {
-    exhaustive: 6, every_row: 6, largest: 2, many_inputs: 3, refusals: 8, every_refusal: 5, every_absent_pin: 4, every_book_length: 4,
-    bad_image: 4, bad_boards: 5, damaged_image: 5, random_image: 3, alterations: 10, bench_sheet: 2, refreshes: 5, five_values: 5,
+    exhaustive: 6, every_row: 6, largest: 2, many_inputs: 3, bigger: 1, early_patterns: 1, refusals: 8, every_refusal: 5, every_absent_pin: 4,
+    every_book_length: 4, bad_image: 4, bad_boards: 5, damaged_image: 5, random_image: 3, alterations: 10, bench_sheet: 2, refreshes: 5, five_values: 5,
     malformed: 8, lengths: 4, long_lines: 3, files: 5, read_and_write: 3, departures: 4, cut_drawing: 1, changed_drawing: 2, random_drawings: 2,
     boards_named: 3, refused_drawings: 3, drawing_files: 2, drawing_lengths: 2,
 }

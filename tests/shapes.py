@@ -8,6 +8,9 @@ spec = importlib.util.spec_from_file_location("make", ROOT / "boards/make.py")
 make = importlib.util.module_from_spec(spec)
 spec.loader.exec_module(make)
 
+# the most lines and inputs that a board has, and an entry of a book that says none
+MOST_LINES, MOST_INPUTS, NONE = 4096, 32, 2**64 - 1
+
 
 class Board:
     """Records as (kind, pins), output lines and a note."""
@@ -203,7 +206,7 @@ def late(rng):
 
 
 def large(rng):
-    """A board of up to 512 lines and 64 outputs, with few inputs; some are the largest there are."""
+    """A board of some hundred lines and up to 64 outputs, with few inputs."""
     lines, inputs = rng.choice((512, 511, 256, 257, rng.randrange(65, 512))), rng.randint(1, 3)
     board = mixed(rng, inputs, lines - inputs, 64, rng.choice((4, 24, 512)))
     if rng.random() < 0.3:
@@ -214,9 +217,18 @@ def large(rng):
     return board
 
 
+def bigger(rng, most=MOST_LINES):
+    """A board of over 512 lines and up to 64 outputs, with few inputs; by default half are of the most lines there are, or of one less."""
+    lines, inputs = rng.choice((most, most - 1, 513, rng.randrange(514, most))), rng.randint(1, 2)
+    board = rng.choice((mixed, mixed, chain))(rng, inputs, lines - inputs)
+    board.outputs = sorted({*rng.sample(range(lines - 200, lines), rng.choice((1, 8, 63))), lines - 1})
+    board.note = rng.choice((b"", rng.randbytes(256)))
+    return board
+
+
 def wide(rng):
-    """A board of up to 24 inputs with a few gates behind them; the last gate reaches no output."""
-    inputs = rng.choice((24, 24, 23, rng.randrange(12, 25)))
+    """A board of up to 32 inputs with a few gates behind them; the last gate reaches no output."""
+    inputs = rng.choice((MOST_INPUTS, MOST_INPUTS, MOST_INPUTS - 1, 25, 24, rng.randrange(12, MOST_INPUTS)))
     records = [INPUT] * inputs
     for line in range(inputs, inputs + rng.randrange(4)):
         records.append(gate(rng, 0, line))
@@ -224,11 +236,19 @@ def wide(rng):
     return Board(records + [gate(rng, 0, len(records))], outputs, a_note(rng))
 
 
+def early(rng):
+    """A board of over 24 inputs whose outputs are gates on the first few, each input of a gate once: an early pattern shows every fault of theirs."""
+    inputs = rng.choice((MOST_INPUTS, MOST_INPUTS, rng.randrange(25, MOST_INPUTS)))
+    kinds = [rng.randrange(1, 9) for _ in range(rng.randint(2, 6))]
+    gates = [(kind, tuple(rng.sample(range(7), pin_count(rng, kind)))) for kind in kinds]
+    return Board([INPUT] * inputs + gates, range(inputs, inputs + len(gates)), a_note(rng))
+
+
 def strands(rng):
     """Strands side by side, each going on through any one pin of a gate whose others are inputs; a few meet, and most end in an output."""
-    outputs, lines = rng.choice(((64, 72), (64, 72), (64, 72), (64, 100), (64, 140), (64, 512), (33, 60), (3, 40)))
+    outputs, lines = rng.choice(((64, 72), (64, 72), (64, 72), (64, 100), (64, 140), (64, 512), (64, MOST_LINES), (33, 60), (3, 40)))
     inputs = rng.randint(1, 2) if lines < 512 else 1
-    loose = rng.choice((0, 1, (lines - outputs) // 4, (lines - outputs) // 4))
+    loose = rng.choice((0, 1, (lines - outputs) // 4, (lines - outputs) // 4)) if lines < MOST_LINES else lines // 4
     records, ends = [INPUT] * inputs, [rng.randrange(inputs) for _ in range(outputs + loose)]
     for line in range(inputs, lines):
         strand = line % len(ends) if line < 2 * len(ends) else rng.randrange(len(ends))
@@ -271,7 +291,7 @@ def bad_record(rng, line):
     kind, pins = gate(rng, 0, line) if line else (make.BUFFER, (0,))
     data = bytearray(make.record(kind, *pins))
     field = rng.randrange(6)
-    too_high = rng.choice((line, line + 1, 511, 512, 65535, line + 256))
+    too_high = rng.choice((line, line + 1, MOST_LINES - 1, MOST_LINES, 65535, line + 256))
     if field == 0:
         data[0] = rng.choice((0, 9, 10, 128, 255))
     elif field == 1:
@@ -302,15 +322,14 @@ def bad_mark(rng, board):
 
 
 def bad_counts(rng, board):
-    """Refusal 2: no line, 513 lines, no output, 65 outputs, or far more; the distance may fit them."""
+    """Refusal 2: no line, 4,097 lines, no output, 65 outputs, or far more; the distance may fit them."""
     distance = rng.choice((None, 44, 0))
-    if rng.random() < 0.2:
-        long = chain(rng, 1, 512)
-        return long.image()
+    if rng.random() < 0.15:
+        return chain(rng, 1, MOST_LINES).image()
     if rng.random() < 0.2:
         return Board(chain(rng, 1, 70).records, range(65)).image()
     if rng.random() < 0.5:
-        return with_counts(board, lines=rng.choice((0, 513, 514, 512 + 256, 65535)), distance=distance)
+        return with_counts(board, lines=rng.choice((0, MOST_LINES + 1, MOST_LINES + 2, MOST_LINES + 256, 65535)), distance=distance)
     return with_counts(board, outputs=rng.choice((0, 65, 66, 256, 257, 65535)), distance=distance)
 
 
@@ -329,15 +348,15 @@ def bad_distance(rng, board):
         return rng.randbytes(257) + image[-right:]
     if way == 3:
         return bytes(rng.choice((0, right - 13, right + 245))) + image[-12:]
-    return with_counts(board, lines=board.lines % 512 + 1, distance=right)
+    return with_counts(board, lines=board.lines % MOST_LINES + 1, distance=right)
 
 
 def bad_records(rng, board):
-    """Refusal 4: a bad record at the first, the last or any line, a 25th input, an input after a gate."""
+    """Refusal 4: a bad record at the first, the last or any line, a 33rd input, an input after a gate."""
     image = board.image()
     way = rng.randrange(8)
     if way == 0:
-        return Board([INPUT] * rng.choice((25, 26, 40)) + [(make.AND, (0, 23))], [24]).image()
+        return Board([INPUT] * (MOST_INPUTS + rng.choice((1, 2, 8))) + [(make.AND, (0, 31))], [MOST_INPUTS]).image()
     if way == 1 and board.lines > board.inputs:
         return make.changed(image, board.record_at(board.lines - 1), make.record(make.INPUT))
     for line in {rng.choice((0, board.lines - 1, rng.randrange(board.lines))) for _ in range(rng.randint(1, 2))}:
