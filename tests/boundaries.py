@@ -2,6 +2,7 @@
 """The papers' boundaries, through the console: images, drawings and the answers that the papers have for them, written by hand side by side.
 
     tests/boundaries.py                          the product's console
+    tests/boundaries.py --long                   the searches among all patterns of 32 inputs too, which take a minute
     tests/boundaries.py --product PROGRAM ...    another program in its place
 
 Its last line is 'N passed, M failed'.
@@ -17,7 +18,7 @@ from shapes import make
 
 record, image, changed = make.record, make.image, make.changed
 INPUT, BUFFER, NOT, AND, OR, XOR, XNOR, T = make.INPUT, make.BUFFER, make.NOT, make.AND, make.OR, make.XOR, make.XNOR, make.T
-NONE = 4294967295
+NONE = 18446744073709551615
 S_COUNTS, T_COUNTS = "board 12 lines 4 inputs 1 outputs", "board 3 lines 1 inputs 1 outputs"
 
 
@@ -25,6 +26,10 @@ def chain(lines):
     """A board of one input and a chain of buffers behind it."""
     return [record(INPUT)] + [record(BUFFER, i) for i in range(lines - 1)]
 
+
+# the largest board there is: 32 inputs, 4,064 buffers of input 0, and the last 64 lines as outputs
+LARGEST = [record(INPUT)] * 32 + [record(BUFFER, 0)] * 4064
+LARGEST_COUNTS = "board 4096 lines 32 inputs 64 outputs"
 
 # what an image is, the image, and what Check says of it
 IMAGES = [
@@ -35,7 +40,14 @@ IMAGES = [
     ("eleven bytes", T[-11:], "refused 1"),
     ("another mark", changed(T, -1, b"\x32"), "refused 1"),
     ("512 lines", image(chain(512), [511]), "board 512 lines 1 inputs 1 outputs"),
-    ("513 lines", image(chain(513), [511]), "refused 2"),
+    ("513 lines", image(chain(513), [512]), "board 513 lines 1 inputs 1 outputs"),
+    ("4,096 lines", image(chain(4096), [4095]), "board 4096 lines 1 inputs 1 outputs"),
+    ("4,097 lines", image(chain(4097), [4095]), "refused 2"),
+    ("an output not below 4,096 lines", image(chain(4096), [4095, 4096]), "refused 5 at 1"),
+    ("a pin that names its own line 4,095", image([*chain(4095), record(BUFFER, 4095)], [0]), "refused 4 at 4095.2"),
+    ("41,356 bytes", image(LARGEST, range(4032, 4096), note=bytes(256)), LARGEST_COUNTS),
+    ("41,357 bytes", image(LARGEST, range(4032, 4096), note=bytes(257)), "refused 3"),
+    ("41,357 bytes that end in T", bytes(41357 - 44) + T, "refused 3"),
     ("no line", image([], [0]), "refused 2"),
     ("64 outputs", image(chain(64), range(64)), "board 64 lines 1 inputs 64 outputs"),
     ("65 outputs", image(chain(65), range(65)), "refused 2"),
@@ -47,7 +59,9 @@ IMAGES = [
     ("a note of 257", image(chain(3), [2], note=bytes(257)), "refused 3"),
     ("a note that holds an image", image(chain(3), [2], note=T), "board 3 lines 1 inputs 1 outputs"),
     ("24 inputs", image([record(INPUT)] * 24 + [record(AND, 0, 23)], [24]), "board 25 lines 24 inputs 1 outputs"),
-    ("a 25th input at line 24", image([record(INPUT)] * 25 + [record(AND, 0, 23)], [24]), "refused 4 at 24.0"),
+    ("a 25th input at line 24", image([record(INPUT)] * 25 + [record(AND, 0, 23)], [24]), "board 26 lines 25 inputs 1 outputs"),
+    ("32 inputs", image([record(INPUT)] * 32 + [record(AND, 0, 31)], [32]), "board 33 lines 32 inputs 1 outputs"),
+    ("a 33rd input at line 32", image([record(INPUT)] * 33 + [record(AND, 0, 31)], [32]), "refused 4 at 32.0"),
     ("an input after a gate", image([record(INPUT), record(NOT, 0), record(INPUT)], [2]), "refused 4 at 2.0"),
     ("kind 9", image([record(INPUT), record(9, 0)], [1]), "refused 4 at 1.0"),
     ("255 pins", changed(T, 21, b"\xff"), "refused 4 at 2.1"),
@@ -178,11 +192,12 @@ PINS_OF_T = [
     ("pin book", "refused 9"),
     ("lend pins 24", "lent"),
     ("lend pins 65537", "?"),
-    ("put pin 23 4294967295", "lent"),
+    ("put pin 23 18446744073709551615", "lent"),
     ("put pin 24 0", "?"),
-    ("put pin 0 4294967296", "?"),
+    ("put pin 0 4294967296", "lent"),
+    ("put pin 1 18446744073709551616", "?"),
     ("put pin 18446744073709551615 0", "?"),
-    ("pin entries", book("pins", (99, 23), (NONE, 1))),
+    ("pin entries", book("pins", (4294967296, 1), (99, 22), (NONE, 1))),
 ]
 
 # both lent books have to be of the right length, tested after 6 and before 10
@@ -246,7 +261,7 @@ PINS_OF_H = [
     ("put pin 0 99", "lent"),
     ("put pin 8 99", "lent"),
     ("put pin 16 77", "lent"),
-    ("put pin 17 4294967295", "lent"),
+    ("put pin 17 18446744073709551615", "lent"),
     ("put pin 18 99", "lent"),
     ("put pin 26 66", "lent"),
     ("alter 3 02010100000000000000", "found 13 of 40"),
@@ -269,12 +284,12 @@ PINS_OF_LOOSE = [
 ]
 
 # inputs alone have no pin, and so nothing to search for, however many patterns there are
-INPUTS = image([record(INPUT)] * 24, [23])
+INPUTS = image([record(INPUT)] * 32, [31])
 PINS_OF_INPUTS = [
-    ("pin book", "found 0 of 192"),
-    ("pin entries", book("pins", (NONE, 192))),
-    ("find 23.0/0", "refused 12"),
-    ("alter 23 01010000000000000000", "refused 10"),
+    ("pin book", "found 0 of 256"),
+    ("pin entries", book("pins", (NONE, 256))),
+    ("find 31.0/0", "refused 12"),
+    ("alter 31 01010000000000000000", "refused 10"),
 ]
 
 # five values of and(0,1): an x on the held pin stays x, and a settled one that differs reads D or D-bar
@@ -532,8 +547,8 @@ def on_last_alone(inputs, last):
 
 
 # inputs, and the numbers that are the smallest patterns there
-LAST_PATTERNS = [(2, 3, 2, 1), (5, 31, 30, 15), (6, 63, 62, 31), (7, 127, 126, 63), (9, 511, 510, 255), (10, 1023, 1022, 511), (24, 16777215, 16777214, 8388607)]
-FIRST_PATTERNS = [(6, 32), (7, 64), (9, 256), (10, 512), (11, 1024), (24, 8388608)]
+LAST_PATTERNS = [(2, 3, 2, 1), (5, 31, 30, 15), (6, 63, 62, 31), (7, 127, 126, 63), (9, 511, 510, 255), (10, 1023, 1022, 511), (25, 33554431, 33554430, 16777215)]
+FIRST_PATTERNS = [(6, 32), (7, 64), (9, 256), (10, 512), (11, 1024), (25, 16777216)]
 ON_LAST = [(f"all ones of {row[0]}", all_ones(row[0]), f"board {2 * row[0] - 1} lines {row[0]} inputs 1 outputs", on_all_ones(*row)) for row in LAST_PATTERNS]
 ON_FIRST = [(f"the last of {n} alone", last_alone(n), f"board {n + 1} lines {n} inputs 1 outputs", on_last_alone(n, last)) for n, last in FIRST_PATTERNS]
 # T's book twice over, so that a second filling starts from a filled one
@@ -722,15 +737,20 @@ NAMED = [
     (drawn(*buffers(64), outputs=range(64)), "read 780"),
     (drawn(*buffers(65), outputs=range(65)), "refused 2"),
     (drawn(*buffers(512), outputs=[511]), "read 5134"),
-    (drawn(*buffers(513), outputs=[511]), "refused 2"),
-    (drawn(*buffers(512), "NOT(n512, n512)", outputs=[600]), "refused 2"),
-    (drawn(inputs=24), "read 254"),
-    (drawn(inputs=25), "refused 4 at 24.0"),
-    (drawn(inputs=512), "refused 4 at 24.0"),
-    (drawn(inputs=513), "refused 2"),
-    (drawn("AND(n0)", inputs=25), "refused 4 at 24.0"),
+    (drawn(*buffers(513), outputs=[511]), "read 5144"),
+    (drawn(*buffers(512), "NOT(n512, n512)", outputs=[600]), "refused 4 at 512.1"),
+    (drawn(*["NOT(n0)"] * 4095, outputs=[4095]), "read 40974"),
+    (drawn(*["NOT(n0)"] * 4095, outputs=[4096]), "refused 5 at 0"),
+    (drawn(*["NOT(n0)"] * 4096, outputs=[4095]), "refused 2"),
+    (drawn(*["NOT(n0)"] * 4095, "NOT(n4096, n4096)", outputs=[600]), "refused 2"),
+    (drawn(inputs=25), "read 264"),
+    (drawn(inputs=32), "read 334"),
+    (drawn(inputs=33), "refused 4 at 32.0"),
+    (drawn(inputs=4096), "refused 4 at 32.0"),
+    (drawn(inputs=4097), "refused 2"),
+    (drawn("AND(n0)", inputs=33), "refused 4 at 32.0"),
     # 13 is tested before them all
-    (drawn(inputs=513) + "x", "refused 13 at 6057"),
+    (drawn(inputs=4097) + "x", "refused 13 at 52162"),
     (drawn("AND(n0)") + "x", "refused 13 at 34"),
     (drawn(outputs=[0, 0]) + "n1 = NOT(n0)", "refused 13 at 44"),
     # a board of gates alone
@@ -898,6 +918,8 @@ FILES = {
     "longer.txt": LONGEST_TEXT + "\n",
     "kept.txt": "kept\n",
     "over.txt": "x" * 999,
+    "4096.txt": drawn(*buffers(4096), outputs=[4095]),
+    "4097.txt": drawn(*buffers(4097), outputs=[4095]),
 }
 # what import and export do, in a folder with these files
 ON_FILES = [
@@ -945,9 +967,140 @@ ON_FILES = [
     ("export FOLDER/none/new.txt", "refused 5 at 0"),
     ("import FOLDER/bad.txt", "refused 4 at 1.2"),
     ("image", "image " + REFUSED.hex()),
+    (read(FILES["4096.txt"]), "? too many bytes"),
+    ("import FOLDER/4097.txt", "refused 2"),
+    ("import FOLDER/4096.txt", "board 4096 lines 1 inputs 1 outputs"),
+    ("image", "image " + image(chain(4096), [4095]).hex()),
+    ("export FOLDER/again-4096.txt", "saved"),
 ]
 # the files that are then in the folder and were not, or hold something else
-LEFT = {"new.txt": H_TEXT, "over.txt": T_TEXT}
+LEFT = {"new.txt": H_TEXT, "over.txt": T_TEXT, "again-4096.txt": FILES["4096.txt"]}
+
+# document 02, W6: bigger boards
+
+# an alteration that touches nothing counts what was put into both books: every number is an entry, and the largest alone is none
+ENTRIES = [
+    ("put entry 0 4294967295", "lent"),
+    ("put entry 1 4294967296", "lent"),
+    ("put entry 2 18446744073709551614", "lent"),
+    ("put entry 3 18446744073709551615", "lent"),
+    ("put entry 4 18446744073709551616", "?"),
+    ("put entry 6 18446744073709551615", "?"),
+    ("put pin 0 4294967295", "lent"),
+    ("put pin 1 18446744073709551615", "lent"),
+    ("put pin 22 18446744073709551615", "lent"),
+    ("put pin 23 18446744073709551614", "lent"),
+    ("alter 2 05020000010000000000", "found 27 of 30"),
+    ("entries", book("entries", (4294967295, 1), (4294967296, 1), (NONE - 1, 1), (NONE, 1), (99, 2))),
+    ("pin entries", book("pins", (4294967295, 1), (NONE, 1), (99, 20), (NONE, 1), (NONE - 1, 1))),
+    ("put entry 3 4294967295", "lent"),
+    ("alter 2 05020000010000000000", "found 28 of 30"),
+    ("put entry 0 000018446744073709551615", "lent"),
+    ("alter 2 05020000010000000000", "found 27 of 30"),
+]
+
+# a chain of buffers, lines 1 to 4,095, behind one input: 1 shows every line and pin at 0, and 0 every one at 1
+ON_LONG_CHAIN = [
+    ("rows 1 4095/0", "filled"),
+    ("show good 4094", "row 0101"),
+    ("show faulty 4094", "row 0100"),
+    ("show good 4095", "row 01"),
+    ("show good 4096", "row -"),
+    ("rows 1 4096/0", "refused 6"),
+    ("rows 2 4095/0", "refused 8"),
+    ("find 4095/0", "1"),
+    ("find 4095.0/1", "0"),
+    ("find 4095.1/0", "refused 12"),
+    ("find 4096/0", "refused 6"),
+    ("judge 1 0/0", "yes"),
+    ("judge 1 512/1", "no"),
+    ("five 1 1 0/0", "drives 1"),
+    ("show good 4093", "row 030303"),
+    ("refresh 4096 0", "refused 6"),
+    ("put good " + "01" * 4094 + "0009", "lent"),
+    ("refresh 4095 1", "filled"),
+    ("show good 4093", "row 010000"),
+    ("put good " + "01" * 4094 + "0201", "lent"),
+    ("refresh 4095 1", "refused 11"),
+    ("refresh 4094 1", "filled"),
+    ("show good 4093", "row 010101"),
+    ("lend rows 4095 4096", "lent"),
+    ("rows 1 4095/0", "refused 9"),
+    ("refresh 0 0", "refused 9"),
+    ("five 1 1 0/0", "refused 9"),
+    ("lend rows 4096 4097", "lent"),
+    ("rows 1 4095/0", "refused 9"),
+    ("refresh 0 0", "filled"),
+    ("lend book 8191", "lent"),
+    ("book", "refused 9"),
+    ("alter 4095 0201fe0f000000000000", "refused 9"),
+    ("lend book 8193", "lent"),
+    ("book", "refused 9"),
+    ("lend book 8192", "lent"),
+    ("book", "found 8192 of 8192"),
+    ("entries", book("entries", *[(1, 1), (0, 1)] * 4096)),
+    ("lend pins 32767", "lent"),
+    ("pin book", "refused 9"),
+    ("lend pins 32769", "lent"),
+    ("pin book", "refused 9"),
+    ("alter 4095 0201fe0f000000000000", "refused 9"),
+    ("lend pins 32768", "lent"),
+    ("pin book", "found 8190 of 32768"),
+    ("pin entries", book("pins", (NONE, 8), *[(1, 1), (0, 1), (NONE, 6)] * 4095)),
+    ("alter 4096 0201fe0f000000000000", "refused 6"),
+    ("alter 4095 0201ff0f000000000000", "refused 10"),  # not(4095), its own line
+    ("alter 4095 0201fe0f000000000000", "found 16382 of 40960"),  # not(4094)
+    ("entries", book("entries", *[(1, 1), (0, 1)] * 4095, (0, 1), (1, 1))),
+]
+
+# every buffer reads input 0, so that line 4,095 shares its output with that alone; the other inputs reach nothing
+ON_LARGEST = [
+    ("find 0/0", "1"),
+    ("find 4095/1", "0"),
+    ("find 4095.0/0", "1"),
+    ("find 4096.0/0", "refused 6"),
+    ("judge 4294967295 0/0", "yes"),
+    ("judge 4294967294 0/0", "no"),
+    ("judge 4294967296 0/0", "refused 8"),
+    ("judge 4294967297 0/0", "refused 8"),
+    ("judge 8589934591 0/0", "refused 8"),
+    ("judge 18446744073709551615 0/0", "refused 8"),
+    ("rows 2147483649 4032/0", "filled"),
+    ("show good 0", "row 01" + "00" * 30 + "01" * 4065),
+    ("show faulty 4030", "row 010100" + "01" * 63),
+    ("five 4294967295 2147483649 0/0", "drives 64"),
+    ("show good 0", "row 03" + "00" * 30 + "01" + "03" * 4064),
+    ("five 2147483648 2147483648 0/0", "drives 0"),
+    ("show good 30", "row 0201" + "02" * 4064),
+    ("five 4294967296 0 0/0", "refused 8"),
+    ("five 4294967295 4294967296 0/0", "refused 8"),
+    ("five 2147483647 2147483648 0/0", "refused 8"),
+    ("five 18446744073709551615 0 0/0", "refused 8"),
+    ("refresh 0 4294967296", "refused 8"),
+    ("put good " + "00" * 4096, "lent"),
+    ("refresh 31 4294967295", "filled"),
+    ("show good 30", "row 0001" + "00" * 4064),
+    ("alter 4095 02010000000000000000", "found 40946 of 40960"),  # not(0)
+    ("entries", book("entries", (1, 1), (0, 1), (99, 8188), (0, 1), (1, 1))),
+    ("pin entries", book("pins", (NONE, 8), (99, 32752), (1, 1), (0, 1), (NONE, 6))),
+]
+
+# inputs 0, 8, 24 and 26 of 32 are the outputs: a bit of its own shows each at 0
+OUT_OF_32 = image([record(INPUT)] * 32, [0, 8, 24, 26])
+ON_OUT_OF_32 = [("find 0/0", "1"), ("find 8/0", "256"), ("find 24/0", "16777216"), ("find 26/0", "67108864"), ("find 26/1", "0")]
+
+# the and of 32 inputs by fours: 8 gates on lines 32 to 39, 2 on 40 and 41, and line 42
+ONES_OF_32 = image([record(INPUT)] * 32 + [record(AND, *range(4 * i, 4 * i + 4)) for i in range(10)] + [record(AND, 40, 41)], [42])
+ONES_COUNTS = "board 43 lines 32 inputs 1 outputs"
+ON_ONES_OF_32 = [
+    ("judge 4294967295 42/0", "yes"),
+    ("judge 4294967295 42.1/0", "yes"),
+    ("judge 4294967294 0/1", "yes"),
+    ("judge 2147483647 31/1", "yes"),
+    ("judge 2147483647 42/0", "no"),
+    ("judge 4294967294 42/0", "no"),
+    ("find 42/1", "0"),
+]
 
 BEFORE_LOAD = [
     ("pin entries", "pins"),
@@ -968,7 +1121,7 @@ ASKED = [
     ("T", T, T_COUNTS, PIN_TAKEN_AWAY),
     ("H", make.H, "board 4 lines 2 inputs 2 outputs", PINS_OF_H),
     ("a loose gate", LOOSE, "board 3 lines 2 inputs 1 outputs", PINS_OF_LOOSE),
-    ("24 inputs", INPUTS, "board 24 lines 24 inputs 1 outputs", PINS_OF_INPUTS),
+    ("32 inputs", INPUTS, "board 32 lines 32 inputs 1 outputs", PINS_OF_INPUTS),
     ("one and", ONE_AND, "board 3 lines 2 inputs 1 outputs", PINS_OF_AND),
     ("a refused image", REFUSED, "refused 5 at 0", PINS_OF_REFUSED),
     ("64 side by side", SIDE_BY_SIDE, "board 66 lines 2 inputs 64 outputs", ON_SIDE_BY_SIDE),
@@ -986,12 +1139,22 @@ ASKED = [
     ("T", T, T_COUNTS, TARGET_OF_WRITE),
     ("T with a note", NOTED, T_COUNTS, ON_NOTED),
     ("T", T, T_COUNTS, ON_FILES),
+    ("a loose gate", LOOSE, "board 3 lines 2 inputs 1 outputs", ENTRIES),
+    ("a chain of 4,096", image(chain(4096), [4095]), "board 4096 lines 1 inputs 1 outputs", ON_LONG_CHAIN),
+    ("the largest board", image(LARGEST, range(4032, 4096)), LARGEST_COUNTS, ON_LARGEST),
+    ("32 inputs, some of them outputs", OUT_OF_32, "board 32 lines 32 inputs 4 outputs", ON_OUT_OF_32),
+    ("all ones of 32", ONES_OF_32, ONES_COUNTS, ON_ONES_OF_32),
+]
+# searches among all patterns of 32 inputs
+LONG = [
+    ("the last of 32 alone", last_alone(32), "board 33 lines 32 inputs 1 outputs", [("find 31/0", "2147483648"), ("find 0/0", "none")]),
+    ("all ones of 32", ONES_OF_32, ONES_COUNTS, [("find 42/0", "4294967295")]),
 ]
 
 
 def drawings():
     """What is asked of drawings beside a board's own questions, as name, command and answer."""
-    asked = [("a target with room enough", "lend target 5516", "lent")]
+    asked = [("a target with room enough", "lend target 41356", "lent")]
     asked += [(f"read {text!r}", read(text), f"refused 13 at {length}") for text, length in DEPARTS]
     asked += [(f"read {text[:80]!r}", read(text), said) for text, said in NAMED]
     for name, data, said in NOT_WRITTEN:
@@ -1000,11 +1163,11 @@ def drawings():
     return asked + [(f"no command: {line}", line, "?") for line in BAD_WORDS]
 
 
-def everything(folder):
-    """All that is asked, in turn, as name, command and answer."""
+def everything(folder, boards):
+    """All that is asked, in turn, as name, command and answer; of these boards among it."""
     asked = [(f"before load: {command}", command, said) for command, said in BEFORE_LOAD]
     asked += [(name, f"load {data.hex() or '-'}", said) for name, data, said in IMAGES]
-    for board, data, counts, questions in ASKED:
+    for board, data, counts, questions in boards:
         asked.append((board, f"load {data.hex()}", counts))
         asked += [(f"{board}: {command[:80]}", command, said) for command, said in questions]
     return [(name, command.replace("FOLDER", folder), said) for name, command, said in asked + drawings()]
@@ -1015,11 +1178,11 @@ def is_right(said, answer):
     return answer == said or said == "?" and answer.startswith("? ")
 
 
-def ask(product, folder):
+def ask(product, folder, boards):
     """Asks everything in one run, and says what was answered otherwise, and which files are not what they should be then."""
     for name, text in FILES.items():
         Path(folder, name).write_bytes(text.encode())
-    asked = everything(folder)
+    asked = everything(folder, boards)
     script = "".join(command + "\n" for _, command, _ in asked)
     written = subprocess.run(product, input=script, stdout=subprocess.PIPE, text=True, check=True, timeout=600).stdout
     answers = written.split("\n")[:-1]
@@ -1034,12 +1197,14 @@ def ask(product, folder):
 def main():
     """Everything, of the product or of another program."""
     words = argparse.ArgumentParser(description=__doc__, formatter_class=argparse.RawDescriptionHelpFormatter)
+    words.add_argument("--long", action="store_true", help="search among all patterns of 32 inputs too")
     words.add_argument("--product", nargs="+", default=[programs.LAUNCHER], help="another program to ask")
-    product = words.parse_args().product
+    given = words.parse_args()
+    product = given.product
     if product[0] == programs.LAUNCHER:
         programs.build("bench")
     with tempfile.TemporaryDirectory() as folder:
-        ask(product, folder)
+        ask(product, folder, ASKED + LONG * given.long)
     counted.end()
 
 
