@@ -1,7 +1,7 @@
 #!/usr/bin/env python3
 """Whole books against the obvious way: both books of boards of few inputs and of every size, entry by entry.
 
-    tests/books.py                               boards of up to 10 inputs and of up to 512 lines, as the gate runs it
+    tests/books.py                               boards of up to 10 inputs and of up to 1,500 lines, as the gate runs it
     tests/books.py --only '20 inputs: adder'     the boards of tests/families.py whose name has this text, however long the obvious way takes
     tests/books.py --product PROGRAM ...         another program in the product's place
 
@@ -16,11 +16,11 @@ import programs
 from shapes import make
 
 OBVIOUS = str(programs.ROOT / "tests/obvious/target/release/obvious")
-# boards of fewer patterns than a word has lanes, of fewer than a block has, of one block and of two, and one of the most lines
+# boards of fewer patterns than a word has lanes, of fewer than a block has, of one block and of two, and one of many lines
 BOARDS = {
     **{name: getattr(make, name) for name in "STH"},
     **{f"random, {inputs} inputs, {lines} lines": families.scattered(inputs, lines).image()
-       for inputs, lines in ((4, 12), (5, 40), (6, 64), (7, 100), (9, 150), (10, 200), (10, 512))},
+       for inputs, lines in ((4, 12), (5, 40), (6, 64), (7, 100), (9, 150), (10, 200), (10, 512), (4, 1500))},
     **{f"8 inputs: {name}": board.image() for name, board in families.GROUPS["8 inputs"].items()},
 }
 

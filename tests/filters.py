@@ -20,7 +20,7 @@ MOST, SECONDS = 1_048_576, 2
 T_TEXT = b"INPUT(n0)\nOUTPUT(n2)\nn1 = NOT(n0)\nn2 = OR(n0, n1)\n"
 ALL_KINDS = image([record(make.INPUT), record(make.BUFFER, 0), record(make.NOT, 0)]
                   + [record(kind, *range(pins)) for kind in range(make.AND, make.XNOR + 1) for pins in (2, 3, 4)], range(21))
-LARGEST = image([record(make.INPUT)] * 24 + [record(make.XNOR, i - 1, i - 2, i - 3, i - 4) for i in range(24, 512)], range(448, 512))
+LARGEST = image([record(make.INPUT)] * 32 + [record(make.XNOR, i - 1, i - 2, i - 3, i - 4) for i in range(32, 4096)], range(4032, 4096))
 # a text of the form that is as long as may be: 65,537 inputs are 906,408 bytes, and 142,168 bytes of outputs follow
 LONGEST_TEXT = b"".join(b"INPUT(n%d)\n" % i for i in range(65_537)) + b"OUTPUT(n0)\n" * 12_923 + b"OUTPUT(n65535)\n"
 
@@ -41,6 +41,8 @@ TEXTS = [
     ("no output", b"INPUT(n0)\n", "refused 2"),
     ("a pin that names its own line", T_TEXT.replace(b"n0, n1", b"n0, n2"), "refused 4 at 2.3"),
     ("an output that is not there", T_TEXT.replace(b"OUTPUT(n2)", b"OUTPUT(n3)"), "refused 5 at 0"),
+    ("4,097 lines", drawing(LARGEST) + b"n4096 = NOT(n0)\n", "refused 2"),
+    ("a 33rd input", b"".join(b"INPUT(n%d)\n" % i for i in range(33)) + b"OUTPUT(n0)\n", "refused 4 at 32.0"),
     ("the longest text", LONGEST_TEXT, "refused 2"),
     ("the longest text without its last line feed", LONGEST_TEXT[:-1], "refused 13 at 1048575"),
     ("the longest text and a byte more", LONGEST_TEXT + b"\n", "? larger than 1048576 bytes"),
@@ -55,8 +57,13 @@ IMAGES = [
     ("a trailer alone", make.T[-12:], "refused 3"),
     ("4 at 2.3", changed(make.T, 24, b"\x02\x00"), "refused 4 at 2.3"),
     ("5 at 0", changed(make.T, 30, b"\x03\x00"), "refused 5 at 0"),
-    ("5,517 bytes", bytes(257) + LARGEST, "refused 3"),
-    ("5,517 bytes without a mark", bytes(5517), "refused 1"),
+    ("4,097 lines", image([record(make.INPUT)] + [record(make.NOT, 0)] * 4096, [0]), "refused 2"),
+    ("a 33rd input", image([record(make.INPUT)] * 33, [0]), "refused 4 at 32.0"),
+    ("41,356 bytes that end in a good image", bytes(41_356 - 44) + make.T, "refused 3"),
+    ("41,357 bytes", bytes(257) + LARGEST, "refused 3"),
+    ("41,357 bytes that end in a good image", bytes(41_357 - 44) + make.T, "refused 3"),
+    ("41,357 bytes that end in bad counts", bytes(41_345) + image([], [0])[-12:], "refused 2"),
+    ("41,357 bytes without a mark", bytes(41_357), "refused 1"),
     ("a megabyte that ends in a good image", bytes(1_000_000) + make.T, "refused 3"),
     ("a megabyte of nothing", bytes(1_000_000), "refused 1"),
     ("a megabyte that ends in bad counts", bytes(1_000_000) + image([], [0])[-12:], "refused 2"),
@@ -127,6 +134,7 @@ def main():
         programs.build("read")
         programs.build("write")
     counted.count("the longest text is as long as may be", len(LONGEST_TEXT) == MOST, len(LONGEST_TEXT))
+    counted.count("the longest image is as long as may be", len(bytes(256) + LARGEST) == 41_356, len(LARGEST))
     filters = Filters(product)
     there_and_back(filters)
     refusals(filters)
