@@ -113,8 +113,8 @@ CAN_ANSWER = {
     **{name: [*ON_FAULT, "three at 1", *(f"x on pin {pin} only" for pin in range(n))] for n, name in XORS.items()},
 }
 # rows of the table that say more of an answer that another row has counted
-CLOSER = ("a bad record", "alter's 9", "altered board", "altered line", "touched", "a pattern", "a departure", "> 512 lines", "> 24 inputs", "a limit", "of 32 inputs",
-          "an entry put", *XORS.values())
+CLOSER = ("a bad record", "alter's 9", "altered board", "altered line", "touched", "a pattern", "a departure", "> 512 lines", "> 24 inputs",
+          "a limit", "of 32 inputs", "an entry put", *XORS.values())
 FIXED = (b"? line too long", b"? cannot read")
 
 

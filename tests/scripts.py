@@ -935,10 +935,10 @@ FIRST = (before_load, gate_tables)
 LAST = ((exclusive_ors,) + (few_shared,) * 3 + (refused_drawings, drawing_files, large_drawings, bigger, bigger_books) + (bigger_drawings,) * 2
         + (early_patterns,))
 PARTS = {
-    exhaustive: 6, every_row: 6, largest: 2, many_inputs: 3, bigger: 1, early_patterns: 1, refusals: 8, every_refusal: 5, every_absent_pin: 4,
-    every_book_length: 4, bad_image: 4, bad_boards: 5, damaged_image: 5, random_image: 3, alterations: 10, bench_sheet: 2, refreshes: 5, five_values: 5,
-    malformed: 8, lengths: 4, long_lines: 3, files: 5, read_and_write: 3, departures: 4, cut_drawing: 1, changed_drawing: 2, random_drawings: 2,
-    boards_named: 3, refused_drawings: 3, drawing_files: 2, drawing_lengths: 2,
+    exhaustive: 6, every_row: 6, largest: 2, many_inputs: 3, bigger: 1, early_patterns: 1, refusals: 8, every_refusal: 5,
+    every_absent_pin: 4, every_book_length: 4, bad_image: 4, bad_boards: 5, damaged_image: 5, random_image: 3, alterations: 10,
+    bench_sheet: 2, refreshes: 5, five_values: 5, malformed: 8, lengths: 4, long_lines: 3, files: 5, read_and_write: 3, departures: 4,
+    cut_drawing: 1, changed_drawing: 2, random_drawings: 2, boards_named: 3, refused_drawings: 3, drawing_files: 2, drawing_lengths: 2,
 }
 
 

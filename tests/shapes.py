@@ -8,7 +8,7 @@ spec = importlib.util.spec_from_file_location("make", ROOT / "boards/make.py")
 make = importlib.util.module_from_spec(spec)
 spec.loader.exec_module(make)
 
-# the most lines and inputs that a board has, and an entry of a book that says none
+# the most lines and the most inputs of a board, and the entry for none
 MOST_LINES, MOST_INPUTS, NONE = 4096, 32, 2**64 - 1
 
 
