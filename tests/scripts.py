@@ -933,7 +933,7 @@ def large_drawings(s):
 # the parts that every script begins and ends with, and each sort of part between them and how often it comes
 FIRST = (before_load, gate_tables)
 LAST = ((exclusive_ors,) + (few_shared,) * 3 + (refused_drawings, drawing_files, large_drawings, bigger, bigger_books) + (bigger_drawings,) * 2
-        + (early_patterns,))
+        + (early_patterns, early_patterns, many_inputs, bigger))
 PARTS = {
     exhaustive: 6, every_row: 6, largest: 2, many_inputs: 3, bigger: 1, early_patterns: 1, refusals: 8, every_refusal: 5,
     every_absent_pin: 4, every_book_length: 4, bad_image: 4, bad_boards: 5, damaged_image: 5, random_image: 3, alterations: 10,
