@@ -189,3 +189,5 @@ def files():
 
 
 LARGE = ("longest.txt", "one-more.txt", "inputs.txt", "lines.txt", "outputs.txt", "most.txt", "late.txt", "garbage.txt", "over.txt")
+# of as many bytes as import takes, and one more
+LONGEST = ("most.txt", "over.txt")

@@ -925,7 +925,7 @@ def drawing_lengths(s):
 def large_drawings(s):
     """Drawings of 4,096 lines and of one more, of 65,537 inputs, lines and outputs, and of up to 1,048,576 bytes and one more, from files."""
     s.load(shapes.small(s.rng))
-    for path in s.rng.sample(drawings.LARGE, 2):
+    for path in (*s.rng.sample(drawings.LARGE, 2), s.rng.choice(drawings.LONGEST)):
         s.say("import", path)
         s.look("check", "image")
 
