@@ -347,7 +347,7 @@ def bigger(s):
 
 def bigger_books(s):
     """Both books of a board of over 512 lines, whole, before alterations of it and after them."""
-    s.load(shapes.bigger(s.rng, 800))
+    s.load(shapes.bigger(s.rng, 650))
     s.look("book", "entries", "pin book", "pin entries")
     for line, record in ((s.gate(), None), (s.board.lines - 1, None), (s.gate(), make.record(make.INPUT)), (s.bad_line(), make.record(make.NOT, 0))):
         plant_entries(s)
@@ -366,7 +366,7 @@ def bigger_drawings(s):
     s.load(shapes.small(s.rng))
     s.say("import", path)
     s.look("image")
-    board = shapes.bigger(s.rng, 1500)
+    board = shapes.bigger(s.rng, 900)
     for short in (1, 0):
         s.say("lend target", len(board.image()) - len(board.note) - short)
         s.read(drawings.drawing(board))
@@ -657,11 +657,12 @@ def exclusive_ors(s):
 
 
 def gate_tables(s):
-    """Every gate on every choice of pins from five lines that hold 0, 1, x, D and D-bar: the whole five-value table."""
+    """Every gate on every choice of pins from five lines that hold 0, 1, x, D and D-bar: the whole five-value table, on boards of 4,096 lines."""
     pins = [chosen for count in (2, 3, 4) for chosen in itertools.product(range(5), repeat=count)]
     gates = [(kind, (pin,)) for kind in (1, 2) for pin in range(5)] + [(kind, chosen) for kind in range(3, 9) for chosen in pins]
     s.rng.shuffle(gates)
     most = MOST_LINES - 5
+    gates += s.rng.choices(gates, k=-len(gates) % most)
     for start in range(0, len(gates), most):
         records = [shapes.INPUT] * 4 + [(make.NOT, (3,))] + gates[start:start + most]
         s.load(shapes.Board(records, sorted(s.rng.sample(range(len(records)), 64))))
@@ -866,6 +867,8 @@ def boards_named(s):
         text = drawings.drawing(rule(s.rng, s.board))
         s.say("lend target", s.rng.choice((5_300, 100, len(s.board.image()))))
         s.read(text)
+        if len(text) > 50_000 and s.rng.random() < 0.7:
+            continue
         s.read(s.rng.choice((text[:-1], text + b" ", text + b"\n", text + b"OUTPUT(n65536)\n", b"\n" + text)))
         s.say("lend target", s.rng.choice((0, 1, 11, 43)))
         s.read(text)

@@ -218,8 +218,9 @@ def large(rng):
 
 
 def bigger(rng, most=MOST_LINES):
-    """A board of over 512 lines and up to 64 outputs, with few inputs; by default half are of the most lines there are, or of one less."""
-    lines, inputs = rng.choice((most, most - 1, 513, rng.randrange(514, most))), rng.randint(1, 2)
+    """A board of over 512 lines and up to 64 outputs, with few inputs; few are of the most lines or of one less, as these take long."""
+    lines, inputs = rng.choice((most, rng.randrange(514, most), 513, *(rng.randrange(514, min(800, most)) for _ in range(3)))), rng.randint(1, 2)
+    lines -= lines == most and rng.random() < 0.3
     board = rng.choice((mixed, mixed, chain))(rng, inputs, lines - inputs)
     board.outputs = sorted({*rng.sample(range(lines - 200, lines), rng.choice((1, 8, 63))), lines - 1})
     board.note = rng.choice((b"", rng.randbytes(256)))
@@ -246,9 +247,9 @@ def early(rng):
 
 def strands(rng):
     """Strands side by side, each going on through any one pin of a gate whose others are inputs; a few meet, and most end in an output."""
-    outputs, lines = rng.choice(((64, 72), (64, 72), (64, 72), (64, 100), (64, 140), (64, 512), (64, MOST_LINES), (33, 60), (3, 40)))
+    outputs, lines = rng.choice(((64, 72), (64, 72), (64, 72), (64, 100), (64, 140), (64, 512), (64, 1000), (33, 60), (3, 40)))
     inputs = rng.randint(1, 2) if lines < 512 else 1
-    loose = rng.choice((0, 1, (lines - outputs) // 4, (lines - outputs) // 4)) if lines < MOST_LINES else lines // 4
+    loose = rng.choice((0, 1, (lines - outputs) // 4, (lines - outputs) // 4)) if lines < 1000 else lines // 4
     records, ends = [INPUT] * inputs, [rng.randrange(inputs) for _ in range(outputs + loose)]
     for line in range(inputs, lines):
         strand = line % len(ends) if line < 2 * len(ends) else rng.randrange(len(ends))
