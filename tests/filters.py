@@ -25,7 +25,7 @@ LARGEST = image([record(make.INPUT)] * 32 + [record(make.XNOR, i - 1, i - 2, i -
 LONGEST_TEXT = b"".join(b"INPUT(n%d)\n" % i for i in range(65_537)) + b"OUTPUT(n0)\n" * 12_923 + b"OUTPUT(n65535)\n"
 
 # a board's name, its drawing and its image
-PAIRS = [(name, (ROOT / f"boards/{name}.txt").read_bytes(), (ROOT / f"boards/{name}.img").read_bytes()) for name in "STH"] + [
+PAIRS = [(name, (ROOT / f"boards/{name}.txt").read_bytes(), (ROOT / f"boards/{name}.img").read_bytes()) for name in ("S", "T", "H", "hall")] + [
     ("T by hand", T_TEXT, make.T),
     ("every kind and pin count", drawing(ALL_KINDS), ALL_KINDS),
     ("an input that is the output", b"INPUT(n0)\nOUTPUT(n0)\n", image([record(make.INPUT)], [0])),

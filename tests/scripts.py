@@ -345,6 +345,19 @@ def bigger(s):
     s.look("check")
 
 
+def hall(s):
+    """The sample board of a hall through the calls that search nothing, and alterations of its last line, a spare gate, which touch nothing."""
+    s.load(shapes.Board(make.HALL_RECORDS, make.HALL_OUTPUTS))
+    for _ in range(2):
+        s.rows(s.pattern(), *s.any_fault())
+        s.judge(s.pattern(), *s.any_fault())
+        s.five(*s.partial(), *s.any_fault())
+        s.refresh(s.line(), s.pattern())
+    plant_entries(s)
+    s.say("alter", s.board.lines - 1, shapes.packed(shapes.gate(s.rng, 0, s.board.lines - 1)))
+    s.look("entries", "pin entries", "image")
+
+
 def bigger_books(s):
     """Both books of a board of over 512 lines, whole, before alterations of it and after them."""
     s.load(shapes.bigger(s.rng, 650))
@@ -935,7 +948,7 @@ def large_drawings(s):
 
 # the parts that every script begins and ends with, and each sort of part between them and how often it comes
 FIRST = (before_load, gate_tables)
-LAST = ((exclusive_ors,) + (few_shared,) * 3 + (refused_drawings, drawing_files, large_drawings, bigger, bigger_books) + (bigger_drawings,) * 2
+LAST = ((exclusive_ors,) + (few_shared,) * 3 + (refused_drawings, drawing_files, large_drawings, bigger, hall, bigger_books) + (bigger_drawings,) * 2
         + (early_patterns, early_patterns, many_inputs, bigger))
 PARTS = {
     exhaustive: 6, every_row: 6, largest: 2, many_inputs: 3, bigger: 1, early_patterns: 1, refusals: 8, every_refusal: 5,
