@@ -16,6 +16,8 @@ from pathlib import Path
 from counted import count, end
 from programs import LAUNCHER
 
+# the signals that end a launcher
+ENDING = signal.SIGHUP, signal.SIGINT, signal.SIGTERM
 # stands in for rt: a program's source is its binary. It refuses a run beside another one, as shared logs make rt do, and a crate whose
 # source says 'unproved'. While there is a file 'slow' it waits until the launcher has told of each step, and at last until three runs
 # have said that they wait. A file 'before' or 'after' is put in as the program's source before or after the program is built.
@@ -78,6 +80,12 @@ def put(path, text):
     path.write_text(text)
 
 
+def heed_signals():
+    """Gives the signals that end a launcher back their own effect."""
+    for number in ENDING:
+        signal.signal(number, signal.SIG_DFL)
+
+
 class Room:
     """A scratch repository with the launcher, beside a stand-in for the kit and a folder for what a program keeps for a while."""
 
@@ -104,11 +112,11 @@ class Room:
         return calls.count("check tool") if set(calls) <= {"check tool"} else calls
 
     def start(self, *words, said=subprocess.PIPE):
-        """The launcher, started on the input 'in'."""
+        """The launcher, started on the input 'in', with no signal ignored: a shell could not heed one that this test was started without."""
         path = {**os.environ, "PATH": f"{self.folder}:{os.environ['PATH']}", "TMPDIR": str(self.folder / "tmp")}
         with open(self.folder / "in") as given:
             return subprocess.Popen([self.repository / "bench", *words], cwd="/", env=path, text=True,
-                                    stdin=given, stdout=subprocess.PIPE, stderr=said)
+                                    stdin=given, stdout=subprocess.PIPE, stderr=said, preexec_fn=heed_signals)
 
     def run(self, *words):
         """The launcher's exit status, output and words, but for those that it has on a slow machine."""
@@ -248,7 +256,7 @@ def ends_filters(room):
     """A signal to the launcher ends a filter's program too, which holds the output; a reader that goes away ends both; nothing is left."""
     put(room.crates / "read/src/main.rt", "echo begun; exec sleep 50\n")
     room.run("--build", "read")
-    for number in (signal.SIGHUP, signal.SIGINT, signal.SIGTERM):
+    for number in ENDING:
         started = room.start("read")
         begun = started.stdout.readline()
         started.send_signal(number)
