@@ -7,7 +7,7 @@
 import random
 import sys
 
-from shapes import INPUT, Board, make
+from shapes import INPUT, MOST_INPUTS, MOST_LINES, Board, make
 
 sys.path.insert(0, str(make.HERE))
 import hall  # noqa: E402
@@ -269,7 +269,7 @@ HALLS = {"32 inputs": {name: Board(*hall.hall(bays)) for name, bays in (("hall, 
 
 def within(board):
     """Whether a board keeps the papers' limits."""
-    return board.lines <= 4096 and 1 <= board.inputs <= 32 and 1 <= len(board.outputs) <= 64
+    return board.lines <= MOST_LINES and 1 <= board.inputs <= MOST_INPUTS and 1 <= len(board.outputs) <= 64
 
 
 def main(words):

@@ -11,9 +11,8 @@ import math
 import subprocess
 import time
 
-from shapes import packed
+from shapes import NONE, packed
 
-NONE = 2**64 - 1
 # the two books: the command that fills one and the command that lists it
 BOOKS = ("book", "entries"), ("pin book", "pin entries")
 # how often a book is filled in one round at most, so that all answers fit a pipe

@@ -2,7 +2,7 @@
 use mathlib.Core.Path.{sym, ap, _∙_}
 use Prim.Native.Nat.{ℕ, _+_, _*_, _^_}
 use native.Mathlib.Omega.{arith}
-use Rattle.image.proofs.Laws.Fine.{line-count, accepted-fine, lines-few}
+use Rattle.image.proofs.Laws.Fine.{line-count, accepted-fine, known-few}
 use Rattle.find.proofs.Laws.Parts.{searched-as}
 use borrow.Author.Needs.{needs}
 use Rattle.find.proofs.search.try_in.Statement.{statement}
@@ -20,7 +20,7 @@ make-room-requires c κs =
     let known = start .pre .known in
     let s = start .args .img .now in (
       known .lines-are ∙ sym (line-count s),
-      rw (known .lines-are) (lines-few s (known .ok)),
+      known-few known,
       start .pre .rows-long ∙ ap (λ (n : ℕ). 16 * n + 16) (sym (known .lines-are)),
     )
 

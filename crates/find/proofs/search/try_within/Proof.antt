@@ -1,32 +1,28 @@
 -- `find::search::try_within` meets its contract: the fronts of the arrays are as long as the board asks for.
 use mathlib.Core.Path.{ap, sym, _∙_}
-use Prim.Native.Nat.{ℕ, _+_, _*_, _≤_}
+use Prim.Native.Nat.{ℕ, _+_, _*_}
 use native.Mathlib.Nat.{le-of-eq}
 use native.Mathlib.Omega.{arith}
 use lib.Seq.{length-take-le}
-use Rattle.board.specs.Limits.{mostLines}
-use Rattle.image.proofs.Laws.Fine.{lines-few}
+use Rattle.image.proofs.Laws.Fine.{known-few}
 use borrow.Author.Needs.{needs}
 use Rattle.find.proofs.search.try_within.Statement.{statement}
 use Rattle.find.proofs.search.try_within.Tie as tie
 
-few : (c : tie.Start) → c .args .counts .lines ≤ mostLines
-few c = rw (c .pre .0 .lines-are) (lines-few (c .args .img .now) (c .pre .0 .ok))
-
 array-borrow-prefix-flat : tie.Need-array-borrow-prefix-flat
-array-borrow-prefix-flat c = omega (arith, few (c .before .before .before .before .before))
+array-borrow-prefix-flat c = omega (arith, known-few (c .before .before .before .before .before .pre .0))
 
 slice-aggregate-try-in : tie.Need-slice-aggregate-try-in
-slice-aggregate-try-in c = sym (length-take-le _ _ (omega (arith, few (c .before .before .before .before .before .before))))
+slice-aggregate-try-in c = sym (length-take-le _ _ (omega (arith, known-few (c .before .before .before .before .before .before .pre .0))))
 
 slice-aggregate-try-in-2 : tie.Need-slice-aggregate-try-in-2
 slice-aggregate-try-in-2 c = sym (length-take-le _ _ (c .before .before .before .before .before .before .before .pre .2 .rows-long))
 
 array-borrow-prefix-changed : tie.Need-array-borrow-prefix-changed
-array-borrow-prefix-changed c = few (c .before .before .before .before .before .before .before)
+array-borrow-prefix-changed c = known-few (c .before .before .before .before .before .before .before .pre .0)
 
 slice-aggregate-try-in-3 : tie.Need-slice-aggregate-try-in-3
-slice-aggregate-try-in-3 c = sym (length-take-le _ _ (few (c .before .before .before .before .before .before .before .before)))
+slice-aggregate-try-in-3 c = sym (length-take-le _ _ (known-few (c .before .before .before .before .before .before .before .before .pre .0)))
 
 slice-aggregate-try-in-4 : tie.Need-slice-aggregate-try-in-4
 slice-aggregate-try-in-4 c = sym (length-take-le _ _ (c .before .before .before .before .before .before .before .before .before .pre .2 .todo-long))
@@ -35,7 +31,7 @@ try-in-requires : tie.Need-try-in-requires
 try-in-requires c κs =
     let start = c .before .before .before .before .before .before .before .before .before .before in
     let (known, part, wide) = start .pre in
-    let low = few start in
+    let low = known-few known in
     record {
       known = known;
       flat-long = length-take-le _ _ (omega arith) ∙ ap (λ (n : ℕ). 8 * n) (known .lines-are);

@@ -1,5 +1,5 @@
 -- `kept::anew::lines_of` meets its contract: an accepted image has few lines.
-use Rattle.image.proofs.Laws.Fine.{lines-few}
+use Rattle.image.proofs.Laws.Fine.{known-few}
 use borrow.Author.Needs.{needs}
 use Rattle.kept.proofs.anew.lines_of.Statement.{statement}
 use Rattle.kept.proofs.anew.lines_of.Tie as tie
@@ -7,8 +7,7 @@ use Rattle.kept.proofs.anew.lines_of.Tie as tie
 returns : tie.Need-returns
 returns c =
     let told = c .before in
-    let known = (rw (told .counts .given .1) at (told .before .before .check-image .ensures)) .1 in
-    rw (known .lines-are) (lines-few _ (known .ok))
+    known-few ((rw (told .counts .given .1) at (told .before .before .check-image .ensures)) .1)
 
 pub lines-of-spec : {M : Type 1} → statement M
 lines-of-spec =
