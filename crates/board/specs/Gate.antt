@@ -1,6 +1,6 @@
--- What a line's value is: document 01's table of kinds, as W3 amends it, and what a fault does to it: a line is held, or a pin of its gate.
+-- What a line's value is: document 01's table of kinds, as W3 and W7 amend it, and what a fault does to it: a line is held, or a pin of its gate.
 use mathlib.Core.List.{List, [], _∷_}
-use mathlib.Core.Bool.{Bool, false, not, cond}
+use mathlib.Core.Bool.{Bool, true, false, not, cond}
 use Prim.Native.Nat.{ℕ, _/_, _%_, _^_}
 use lib.Dec.{eqb, leb, ltb}
 use lib.ListN.{length, getD, set}
@@ -11,13 +11,14 @@ use Rattle.board.specs.declared.Condition.{Condition}
 use Rattle.board.specs.declared.Fault.the-variants.{Line, Pin}
 use Rattle.board.specs.declared.Condition.the-variants.{Sound, Having}
 
--- what each kind from 0 up asks of n pins, of which s are 1: that all are (for a buffer, its one), that some are, that an odd number is
+-- what each kind from 0 up asks of n pins, of which s are 1: that all are (for a buffer, its one), that some are, that an odd number is; a line
+-- that is tied asks nothing
 unfoldable pub kinds : ℕ → ℕ → List Bool
 kinds n s =
     let all = eqb s n in
     let some = ltb 0 s in
     let odd = eqb (s % 2) 1 in
-    false ∷ all ∷ not all ∷ all ∷ not all ∷ some ∷ not some ∷ odd ∷ not odd ∷ []
+    false ∷ all ∷ not all ∷ all ∷ not all ∷ some ∷ not some ∷ odd ∷ not odd ∷ false ∷ true ∷ []
 
 abbrev pub asks : ℕ → ℕ → ℕ → Bool
 asks k n s = getD (kinds n s) k false

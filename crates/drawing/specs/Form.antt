@@ -12,7 +12,7 @@ use Rattle.text.specs.Text.{form, each}
 
 -- the gate words, by kind
 abbrev pub words : List (List ℕ)
-words = [] ∷ text "BUFF" ∷ text "NOT" ∷ text "AND" ∷ text "NAND" ∷ text "OR" ∷ text "NOR" ∷ text "XOR" ∷ text "XNOR" ∷ []
+words = [] ∷ text "BUFF" ∷ text "NOT" ∷ text "AND" ∷ text "NAND" ∷ text "OR" ∷ text "NOR" ∷ text "XOR" ∷ text "XNOR" ∷ text "TIE0" ∷ text "TIE1" ∷ []
 
 -- INPUT(n0) and OUTPUT(n4), each with its line feed
 unfoldable pub inputText : ℕ → List ℕ
@@ -42,12 +42,17 @@ textOf b = linesText 0 (take (inputs b) (b .lines)) ++ each outputText (b .outs)
 abbrev pub lastNumber : ℕ
 lastNumber = 65_535
 
--- what a gate word takes: one to four pins
+-- from this kind on a line is tied
+abbrev pub firstTie : ℕ
+firstTie = 9
+
+-- what a gate word takes: one to four pins, and of TIE0 and TIE1 none
 pub record Worded (r : Record) : Type 0 where
   pub a-gate : 1 ≤ r .kind
   pub a-word : r .kind ≤ lastKind
-  pub some-pin : 1 ≤ length (r .pins)
+  pub some-pin : r .kind < firstTie → 1 ≤ length (r .pins)
   pub four-pins : length (r .pins) ≤ 4
+  pub no-pin : firstTie ≤ r .kind → r .pins ≡ []
   pub numbers : (p : ℕ) → p among (r .pins) → p ≤ lastNumber
 
 -- a board that can be drawn, within document 01's rules or not: inputs, which have no pins, then gates, and outputs

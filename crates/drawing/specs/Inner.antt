@@ -15,7 +15,7 @@ use Rattle.image.specs.Refusals.{imageRefusals}
 use Rattle.image.specs.Promise.{Promise}
 use Rattle.image.specs.Calls.{_then_}
 use Rattle.drawing.specs.Calls.{tooShort, making}
-use Rattle.drawing.specs.Form.{inputText, outputText, gateText, textOf, lastNumber, Worded, Drawn, Departs}
+use Rattle.drawing.specs.Form.{inputText, outputText, gateText, textOf, lastNumber, firstTie, Worded, Drawn, Departs}
 use Rattle.drawing.specs.Image.{wordBytes, linesBytes}
 use Rattle.drawing.specs.declared.choose.Choice.{Choice}
 use Rattle.drawing.specs.declared.choose.Choice.the-variants.{Took, Stop}
@@ -31,7 +31,7 @@ use Rattle.drawing.specs.declared.pins.PinFound.the-variants.{Last, More
 use Rattle.drawing.specs.declared.pins.PinsFound.{PinsFound}
 use Rattle.drawing.specs.declared.pins.PinsFound.the-variants.{Found, PinsStop}
 
--- the forms of the pieces between a drawing's numbers; from 5 on the words of kinds 1 to 8
+-- the forms of the pieces between a drawing's numbers; from 5 on the words of kinds 1 to 10, of which the last two end their statements
 unfoldable pub pieceForms : List (List ℕ)
 pieceForms =
     text "INPUT(n#)\n"
@@ -47,14 +47,16 @@ pieceForms =
     ∷ text "NOR(n"
     ∷ text "XOR(n"
     ∷ text "XNOR(n"
+    ∷ text "TIE0()\n"
+    ∷ text "TIE1()\n"
     ∷ []
 
 -- the same as the code's table has them, ten bytes each
 unfoldable pub pieceRows : List ℕ
-pieceRows = text "INPUT(n#)\nOUTPUT(n  n# =      )\n        , n       BUFF(n    NOT(n     AND(n     NAND(n    OR(n      NOR(n     XOR(n     XNOR(n    "
+pieceRows = text "INPUT(n#)\nOUTPUT(n  n# =      )\n        , n       BUFF(n    NOT(n     AND(n     NAND(n    OR(n      NOR(n     XOR(n     XNOR(n    TIE0()\n   TIE1()\n   "
 
 abbrev pub pieceCount : ℕ
-pieceCount = 13
+pieceCount = 15
 
 -- a piece, where the next input or gate is numbered k
 unfoldable pub piece : ℕ → ℕ → List ℕ
@@ -121,9 +123,16 @@ abbrev pub Pins : ℕ → List ℕ → Type 0
 Pins zero s = ⊥
 Pins (suc left) s = NumberThen (λ p. PieceThen 3 (pinsTo (suc left)) 0 (λ which v. ((which ≡ 3) × (v ≡ [])) ⊎ ((which ≡ 4) × Pins left v))) s
 
+-- what may follow the word of a piece: nothing where it is that of a tie, and else up to four pins
+abbrev pub tiePiece : ℕ
+tiePiece = 4 + firstTie
+
+abbrev pub WordThen : ℕ → List ℕ → Type 0
+WordThen which v = ((tiePiece ≤ which) × (v ≡ [])) ⊎ ((which < tiePiece) × Pins 4 v)
+
 -- a gate's statement from its word on
 abbrev pub GateRest : List ℕ → Type 0
-GateRest = PieceThen 5 pieceCount 0 (λ which. Pins 4)
+GateRest = PieceThen 5 pieceCount 0 WordThen
 
 -- pins as a gate's statement has them, from the first one's number on
 abbrev pub pinsRest : List ℕ → List ℕ

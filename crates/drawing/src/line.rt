@@ -2,6 +2,7 @@
 use crate::choose::Choice;
 use crate::choose::choose;
 use crate::pins::Four;
+use crate::pins::NO_PINS;
 use crate::pins::PinFound;
 use crate::pins::PinsFound;
 use crate::pins::read_pin;
@@ -44,15 +45,30 @@ fn output_at(rest: &[u8], at: usize) -> Line
     }
 }
 
+// The pieces of the words from the first to the last; from the first tie on a word ends its statement.
+const FIRST_WORD: usize = 5;
+
+const FIRST_TIE: usize = 13;
+
+const END: usize = 15;
+
 // Reads a gate's statement on from its word.
 fn gate_at(rest: &[u8], at: usize) -> Line
     requires { ⌜ at ≤ length (now rest) ⌝ }
     ensures { λ r. ⌜ GateAt (now (rest .entry)) at r ⌝ }
 {
-    match choose(tail(rest, at), 5, 13, 0) {
+    match choose(tail(rest, at), FIRST_WORD, END, 0) {
         Choice::Stop(m) => Line::LineStop(at + m),
         Choice::Took { which, length } => {
             let next = at + length;
+            if FIRST_TIE <= which {
+                return Line::Gate {
+                    kind: which - 4,
+                    count: 0,
+                    pins: NO_PINS,
+                    length: next,
+                };
+            }
             match read_pins(tail(rest, next), 4) {
                 PinsFound::PinsStop(m) => Line::LineStop(next + m),
                 PinsFound::Found {

@@ -8,13 +8,13 @@ ghost use Rattle.text.specs.Text.{Written};
 ghost use Rattle.drawing.specs.Inner.{pieceForms, pieceRows, piece, pieceCount, pieceRoom};
 
 // The forms of the pieces, ten bytes each, and how long each is.
-const FORMS: [u8; 130] =
-    *b"INPUT(n#)\nOUTPUT(n  n# =      )\n        , n       BUFF(n    NOT(n     AND(n     NAND(n    OR(n      NOR(n     XOR(n     XNOR(n    ";
+const FORMS: [u8; 150] =
+    *b"INPUT(n#)\nOUTPUT(n  n# =      )\n        , n       BUFF(n    NOT(n     AND(n     NAND(n    OR(n      NOR(n     XOR(n     XNOR(n    TIE0()\n   TIE1()\n   ";
 
-const LENGTHS: [u8; 13] = [10, 8, 5, 2, 3, 6, 5, 5, 6, 4, 5, 5, 6];
+const LENGTHS: [u8; 15] = [10, 8, 5, 2, 3, 6, 5, 5, 6, 4, 5, 5, 6, 7, 7];
 
 // The table of forms.
-fn the_forms() -> [u8; 130]
+fn the_forms() -> [u8; 150]
     ensures { λ r. ⌜ r ≡ pieceRows ⌝ }
 {
     FORMS

@@ -29,7 +29,8 @@ const ROOM: usize = 288;
 // The room that a piece gets.
 const PIECE: usize = 32;
 
-// The pieces: an input, before an output, before a gate, behind the last number, before another pin, and before the word of kind 1.
+// The pieces: an input, before an output, before a gate, behind the last number, before another pin, and before the word of kind 1. The words of ties
+// end their statements.
 const INPUT: usize = 0;
 
 const OUTPUT: usize = 1;
@@ -69,6 +70,9 @@ fn put_gate(img: &[u8], line: usize, out: &mut [u8]) -> usize
     let pins = pin_count(img, line);
     let named = add_piece(GATE, line, out, 0);
     let opened = add_piece(BEFORE_WORDS + kind, line, out, named);
+    if pins == 0 {
+        return opened;
+    }
     let mut at = add_pin(img, line, 0, out, opened);
     let mut pin = 1;
     while pin < pins {

@@ -101,8 +101,9 @@ fn section_value(
     entry(table, section, a, b, c, d)
 }
 
-// How each kind from 1 up goes by the table: twice its section, and one more for the opposite of what stands there.
-const WAYS: [u8; 8] = [0, 1, 0, 1, 2, 3, 4, 5];
+// How each kind from 1 up goes by the table: twice its section, and one more for the opposite of what stands there. A line that is tied goes as
+// exclusive-or of no pins.
+const WAYS: [u8; 10] = [0, 1, 0, 1, 2, 3, 4, 5, 4, 5];
 
 // The opposite of each value.
 const OPPOSITE: [u8; 5] = [1, 0, 2, 4, 3];

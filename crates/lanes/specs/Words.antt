@@ -57,7 +57,7 @@ joinedAll k a (w ∷ ws) = joinedAll k (joined k a w) ws
 abbrev pub unjoined : ℕ → ℕ
 unjoined k = cond (ltb k 5) full 0
 
--- the word of a gate of kind k from its pins' words: the odd kinds ask, the even ones ask the opposite
+-- the word of a gate of kind k from its pins' words: the odd kinds ask, the even ones ask the opposite; a line that is tied joins no pin
 unfoldable pub gateWord : ℕ → List ℕ → ℕ
 gateWord k ws = let asked = joinedAll k (unjoined k) ws in cond (eqb (k % 2) 1) asked (turned asked)
 

@@ -22,8 +22,20 @@ pub fn gate_value(kind: usize, n: usize, s: usize) -> u8
     let all = s == n;
     let some = 0 < s;
     let odd = s % 2 == 1;
-    let kinds = [false, all, !all, all, !all, some, !some, odd, !odd];
-    if kind < 9 { kinds[kind] as u8 } else { 0 }
+    let kinds = [
+        false,
+        all,
+        !all,
+        all,
+        !all,
+        some,
+        !some,
+        odd,
+        !odd,
+        false,
+        true,
+    ];
+    if kind < 11 { kinds[kind] as u8 } else { 0 }
 }
 
 // What stands at k in the row so far: the bytes before, and the part behind them.

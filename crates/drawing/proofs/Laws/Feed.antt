@@ -1,15 +1,19 @@
 -- A statement's text is one line, so that a text begins with one statement only.
 use mathlib.Core.Path.{_≡_, refl, sym, ap, _∙_}
+use mathlib.Core.Logic.{⊎-elim}
 use mathlib.Core.Bool.{Bool, true, false, not, cond, _&&_}
-use mathlib.Core.List.{List, [], _∷_, _++_, append-assoc}
-use Prim.Native.Nat.{ℕ, _+_, _≤_, _<_}
+use mathlib.Core.List.{List, [], _∷_, _++_, append-assoc, append-nil}
+use Prim.Native.Nat.{ℕ, _+_, _-_, _≤_, _<_}
 use native.Mathlib.Omega.{arith}
-use lib.Dec.{T, eqb}
-use lib.ListN.{length, getD}
+use lib.Dec.{T, eqb, ltb}
+use lib.ListN.{length, getD, take}
 use mir.Facts.{and-yes}
-use borrow.Author.Tests.{eqb-false}
-use Rattle.board.specs.Lists.{text}
+use borrow.Author.Tests.{eqb-false, ltb-true, ltb-false}
+use Rattle.board.specs.Lists.{text, same}
+use Rattle.board.specs.Limits.{lastKind}
+use Rattle.board.proofs.Lists.{way, same-is}
 use Rattle.text.specs.Text.{decimal}
+use Rattle.drawing.specs.Form.{firstTie}
 use Rattle.drawing.specs.Inner.{pieceForms, piece, pinsRest, Statement, input, output, gate, section, Sound, an-input, an-output, a-gate, statementText}
 use Rattle.drawing.proofs.Laws.Decimal.{Digits, no-more, one-more, decimal-digits}
 use Rattle.drawing.proofs.Laws.Pieces.{at-each}
@@ -81,9 +85,25 @@ output-free : (k : ℕ) → Free (piece 1 k)
 unfolding piece pieceForms
 output-free k = free-is _ tt
 
-word-free : (which : ℕ) → which < 9 → Free (piece (4 + which) 0)
+word-free : (which : ℕ) → which < firstTie → Free (piece (4 + which) 0)
 unfolding piece pieceForms
-word-free which h = free-is _ (at-each (λ j. free (piece (4 + j) 0)) 9 tt which h)
+word-free which h = free-is _ (at-each (λ j. free (piece (4 + j) 0)) firstTie tt which h)
+
+-- the word of a tie is a line too
+tie-word : ℕ → List ℕ
+tie-word which = take 6 (piece (4 + which) 0)
+
+tie-line : (which : ℕ) → firstTie ≤ which → which ≤ lastKind → Line (piece (4 + which) 0)
+unfolding piece pieceForms tie-word same
+tie-line which low high =
+    let j = which - firstTie in
+    let is : firstTie + j ≡ which = omega arith in
+    let line : Line (piece (4 + (firstTie + j)) 0) = (
+      tie-word (firstTie + j),
+      free-is _ (at-each (λ k. free (tie-word (firstTie + k))) 2 tt j (omega arith)),
+      same-is _ _ (at-each (λ k. same (piece (4 + (firstTie + k)) 0) (tie-word (firstTie + k) ++ (10 ∷ []))) 2 tt j (omega arith)),
+    ) in
+    rw is at line
 
 input-line : (k : ℕ) → Line (piece 0 k)
 unfolding piece pieceForms
@@ -99,7 +119,14 @@ text-line : (k : ℕ) (st : Statement) → Sound st → Line (statementText k st
 text-line k input an-input = rw input-text (input-line k)
 text-line k (output o) (an-output few) = rw (output-is k o) (line-behind (output-free k) (line-behind (decimal-free o) close-line))
 text-line k (gate g) (a-gate w) =
-    rw (gate-is k g w) (line-behind (name-free k) (line-behind (word-free (g .kind) (omega (arith, w .a-word))) (pins-line (g .pins) (w .some-pin))))
+    rw (gate-is k g w)
+    (line-behind (name-free k)
+    (⊎-elim
+    (λ e. let low = ltb-true (g .kind) firstTie e in line-behind (word-free (g .kind) low) (pins-line (g .pins) (w .some-pin low)))
+    (λ e.
+    let tied = ltb-false (g .kind) firstTie e in
+    rw (w .no-pin tied, append-nil) (tie-line (g .kind) tied (w .a-word)))
+    (way (ltb (g .kind) firstTie))))
 
 -- and its first byte, I, O or n, tells its section
 abbrev sectionBy : List ℕ → ℕ

@@ -1,32 +1,46 @@
 -- A statement read piece by piece: what each step adds to what was read.
-use mathlib.Core.Path.{_≡_, sym, ap, _∙_}
-use mathlib.Core.List.{List, _++_, append-assoc}
+use mathlib.Core.Path.{_≡_, refl, sym, ap, _∙_}
+use mathlib.Core.List.{List, [], _++_, append-assoc, append-nil}
 use Prim.Native.Nat.{ℕ, _+_, _-_, _≤_, _<_}
 use native.Mathlib.Nat.{add-assoc}
 use native.Mathlib.Omega.{arith}
-use lib.ListN.{length, drop, length-append, length-drop}
+use lib.Dec.{lit≤}
+use lib.ListN.{length, drop, replicate, length-append, length-drop}
 use lib.Seq.{drop-drop}
 use Rattle.board.specs.Board.{Record}
 use Rattle.text.specs.Text.{decimal}
 use Rattle.drawing.specs.Form.{lastNumber}
-use Rattle.drawing.specs.Inner.{pieceForms, pieceCount, piece, Stops, Chosen, Pins, pinsRest, HasPins, Statement, input, output, gate, section, Sound, an-input, an-output, a-gate, statementText, Begins, Lined, OutputAt, GateAt}
+use Rattle.drawing.specs.Inner.{pieceForms, pieceCount, piece, Stops, Chosen, Pins, pinsRest, tiePiece, four, HasPins, Statement, input, output, gate, section, Sound, an-input, an-output, a-gate, statementText, Begins, Lined, OutputAt, GateAt}
 use Rattle.drawing.specs.declared.choose.Choice.the-variants.{Took}
 use Rattle.drawing.specs.declared.pins.Four.{Four}
 use Rattle.drawing.specs.declared.line.Line.{Line}
 use Rattle.drawing.specs.declared.line.Line.the-variants.{Input, Output, Gate, LineStop}
 use Rattle.drawing.proofs.Laws.WriteGate.{input-text}
-use Rattle.drawing.proofs.Laws.Statements.{output-is, gate-is, output-stops, gate-stops, word-behind}
+use Rattle.drawing.proofs.Laws.Statements.{output-is, gate-is, worded, output-stops, gate-stops, word-behind}
 
 -- a gate's pins behind its word
 module _ (rest : List ℕ) (at which n : ℕ) (room : at ≤ length rest) (chosen : Chosen 5 pieceCount 0 (drop at rest) (Took which n)) where
   pub word-inside : at + n ≤ length rest
   word-inside = omega (arith, chosen .3, length-drop at rest)
 
-  pub word-stop : (m : ℕ) → Stops (Pins 4) (drop (at + n) rest) m → GateAt rest at (LineStop (at + n + m))
-  word-stop m stops = (n + m, add-assoc at n m, word-behind which n chosen (rw drop-drop stops))
+  pub word-stop : which < tiePiece → (m : ℕ) → Stops (Pins 4) (drop (at + n) rest) m → GateAt rest at (LineStop (at + n + m))
+  word-stop no-tie m stops = (n + m, add-assoc at n m, word-behind which n no-tie chosen (rw drop-drop stops))
 
-  pub gate-read : (ps : List ℕ) (pins : Four) (count more : ℕ) → HasPins (drop (at + n) rest) 4 ps pins count more → GateAt rest at (Gate (which - 4) count pins (at + n + more))
-  gate-read ps pins count more has =
+  pub tie-read : tiePiece ≤ which → (pins : Four) → four pins ≡ replicate 4 0 → GateAt rest at (Gate (which - 4) 0 pins (at + n))
+  tie-read tied pins holds =
+      let kind : which ≡ 4 + (which - 4) = omega (arith, chosen .0) in (
+        [],
+        worded which [] (chosen .0) (chosen .1) ((λ low. absurd (omega arith)), (λ high. refl), lit≤ tt, λ p there. absurd there),
+        refl,
+        holds,
+        word-inside,
+        chosen .4
+            ∙ ap (λ (z : List ℕ). piece which 0 ++ z) (drop-drop n at rest)
+            ∙ ap (λ (z : List ℕ). z ++ drop (at + n) rest) (ap (λ (j : ℕ). piece j 0) kind ∙ sym (append-nil (piece (4 + (which - 4)) 0))),
+      )
+
+  pub gate-read : which < tiePiece → (ps : List ℕ) (pins : Four) (count more : ℕ) → HasPins (drop (at + n) rest) 4 ps pins count more → GateAt rest at (Gate (which - 4) count pins (at + n + more))
+  gate-read no-tie ps pins count more has =
       let low = chosen .0 in
       let high = chosen .1 in
       let kind : which ≡ 4 + (which - 4) = omega arith in
@@ -34,7 +48,7 @@ module _ (rest : List ℕ) (at which n : ℕ) (room : at ≤ length rest) (chose
       let long = length-drop (at + n) rest in
       let word = word-inside in (
         ps,
-        record { a-gate = omega arith; a-word = omega arith; some-pin = has .some-pin; four-pins = has .few; numbers = has .numbers },
+        worded which ps low high ((λ l. has .some-pin), (λ tied. absurd (omega arith)), has .few, has .numbers),
         has .counts,
         has .holds,
         omega arith,

@@ -39,11 +39,11 @@ module _ (which : ℕ) (h : which < pieceCount) where
   form-short = leb→le _ _ (at-each (λ w. leb (length (getD pieceForms w [])) 10) pieceCount tt which h)
 
   -- as long as the code's own list of lengths says
-  pub length-is : getD (10 ∷ 8 ∷ 5 ∷ 2 ∷ 3 ∷ 6 ∷ 5 ∷ 5 ∷ 6 ∷ 4 ∷ 5 ∷ 5 ∷ 6 ∷ []) which 0 ≡ length (getD pieceForms which [])
+  pub length-is : getD (10 ∷ 8 ∷ 5 ∷ 2 ∷ 3 ∷ 6 ∷ 5 ∷ 5 ∷ 6 ∷ 4 ∷ 5 ∷ 5 ∷ 6 ∷ 7 ∷ 7 ∷ []) which 0 ≡ length (getD pieceForms which [])
   unfolding pieceForms
   length-is =
       eqb→eq _ _
-      (at-each (λ w. eqb (getD (10 ∷ 8 ∷ 5 ∷ 2 ∷ 3 ∷ 6 ∷ 5 ∷ 5 ∷ 6 ∷ 4 ∷ 5 ∷ 5 ∷ 6 ∷ []) w 0) (length (getD pieceForms w []))) pieceCount tt which h)
+      (at-each (λ w. eqb (getD (10 ∷ 8 ∷ 5 ∷ 2 ∷ 3 ∷ 6 ∷ 5 ∷ 5 ∷ 6 ∷ 4 ∷ 5 ∷ 5 ∷ 6 ∷ 7 ∷ 7 ∷ []) w 0) (length (getD pieceForms w []))) pieceCount tt which h)
 
   -- and as the code cuts it
   pub cut-is : (forms : List ℕ) (n : ℕ) → forms ≡ pieceRows → n ≡ length (getD pieceForms which [])

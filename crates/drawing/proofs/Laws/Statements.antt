@@ -4,16 +4,17 @@ use mathlib.Core.Logic.{⊎-elim, _⊎_, inl, inr}
 use mathlib.Core.List.{List, [], _∷_, _++_, append-assoc, append-nil}
 use Prim.Native.Nat.{ℕ, zero, suc, _+_, _-_, _≤_, _<_}
 use native.Mathlib.Omega.{arith}
-use lib.Dec.{lit≤, lit<}
+use lib.Dec.{lit≤, lit<, ltb}
 use lib.ListN.{length, getD, drop}
-use borrow.Author.Tests.{lt-ltb}
+use borrow.Author.Tests.{lt-ltb, ltb-true, ltb-false}
 use Rattle.board.specs.Lists.{text, same, _among_}
 use Rattle.board.specs.Board.{Record}
+use Rattle.board.proofs.Lists.{way}
 use Rattle.text.specs.Text.{decimal, each}
 use Rattle.drawing.specs.Form.{outputText, gateText, lastNumber, Worded}
-use Rattle.drawing.specs.Inner.{pieceForms, pieceCount, piece, Stops, NoPiece, Chosen, PieceThen, pinsTo, Pins, pinsRest, GateRest, input, output, gate, an-input, an-output, a-gate, Statements}
+use Rattle.drawing.specs.Inner.{pieceForms, pieceCount, piece, Stops, NoPiece, Chosen, PieceThen, pinsTo, Pins, pinsRest, tiePiece, WordThen, GateRest, input, output, gate, an-input, an-output, a-gate, Statements}
 use Rattle.drawing.specs.declared.choose.Choice.the-variants.{Took}
-use Rattle.drawing.proofs.Laws.WriteGate.{nextPin, word-piece, input-text, output-text, gate-text}
+use Rattle.drawing.proofs.Laws.WriteGate.{nextPin, word-piece, input-text, output-text, gate-text, tie-text}
 use Rattle.drawing.proofs.Laws.Stops.{stops-same, piece-stops, piece-behind}
 use Rattle.drawing.proofs.Laws.Pins.{pins-to, pins-some}
 
@@ -34,17 +35,14 @@ output-is k o = output-text o
 
 pub gate-is : (k : ℕ) (g : Record) → Worded g → gateText k g ≡ piece 2 k ++ (piece (4 + g .kind) 0 ++ pinsRest (g .pins))
 gate-is k g w =
-    let low = w .a-gate in
-    let high = w .a-word in
-    let is : suc (g .kind - 1) ≡ g .kind = omega arith in
-    let word : piece (4 + g .kind) k ≡ piece (4 + g .kind) 0 =
-    rw is at (word-piece k (g .kind - 1) (omega arith) ∙ sym (word-piece 0 (g .kind - 1) (omega arith))) in
-    let pins = some-pins k (g .pins) (w .some-pin) in
-    gate-text k g w ∙ ap (λ (z : List ℕ). piece 2 k ++ (piece (4 + g .kind) k ++ z)) pins ∙ ap (λ (z : List ℕ). piece 2 k ++ (z ++ pinsRest (g .pins))) word
+    let word : piece (4 + g .kind) k ≡ piece (4 + g .kind) 0 = word-piece k g w ∙ sym (word-piece 0 g w) in
+    go (g .pins) refl ∙ ap (λ (z : List ℕ). piece 2 k ++ (z ++ pinsRest (g .pins))) word
   where
-    some-pins : (k : ℕ) (ps : List ℕ) → 1 ≤ length ps → decimal (getD ps 0 0) ++ (each (nextPin k) (drop 1 ps) ++ piece 3 k) ≡ pinsRest ps
-    some-pins k [] l = absurd (omega arith)
-    some-pins k (p ∷ ps) l = pins-are k p ps
+    go : (ps : List ℕ) → g .pins ≡ ps → gateText k g ≡ piece 2 k ++ (piece (4 + g .kind) k ++ pinsRest (g .pins))
+    go [] e = tie-text k g w (ap length e) ∙ rw (e, append-nil)
+    go (p ∷ ps) e =
+        let pins = ap (λ (z : List ℕ). decimal (getD z 0 0) ++ (each (nextPin k) (drop 1 z) ++ piece 3 k)) e ∙ pins-are k p ps ∙ ap pinsRest (sym e) in
+        gate-text k g w (rw e (omega arith)) ∙ ap (λ (z : List ℕ). piece 2 k ++ (piece (4 + g .kind) k ++ z)) pins
 
 -- the texts of up to so many pins are those of pins
 pub pins-list : (left : ℕ) (v : List ℕ) → Pins left v
@@ -90,6 +88,23 @@ list-pins (suc left) (p ∷ q ∷ qs) l few numbers =
       append-assoc (decimal p) (piece 4 0) (pinsRest (q ∷ qs)),
     )
 
+-- so what may follow a word is the pins that it takes
+abbrev Taken : ℕ → List ℕ → Type 0
+Taken which ps = (which < tiePiece → 1 ≤ length ps) × (tiePiece ≤ which → ps ≡ []) × (length ps ≤ 4) × ((p : ℕ) → p among ps → p ≤ lastNumber)
+
+word-list : (which : ℕ) (v : List ℕ) → WordThen which v → (ps : List ℕ) × Taken which ps × (v ≡ pinsRest ps)
+word-list which v =
+    ⊎-elim
+    (λ (tied, none). ([], ((λ low. absurd (omega arith)), (λ high. refl), lit≤ tt, λ p there. absurd there), none))
+    (λ (low, pins). let (ps, some-pin, few, numbers, is) = pins-list 4 v pins in (ps, ((λ l. some-pin), (λ high. absurd (omega arith)), few, numbers), is))
+
+list-word : (which : ℕ) (ps : List ℕ) → Taken which ps → WordThen which (pinsRest ps)
+list-word which ps (some-pin, none, few, numbers) =
+    ⊎-elim
+    (λ e. let low = ltb-true which tiePiece e in inr (low, list-pins 4 ps (some-pin low) few numbers))
+    (λ e. let tied = ltb-false which tiePiece e in inl (tied, ap pinsRest (none tied)))
+    (way (ltb which tiePiece))
+
 -- what may follow the first piece of a statement
 abbrev Behind : ℕ → List ℕ → Type 0
 Behind which v = ((which ≡ 0) × (v ≡ [])) ⊎ (((which ≡ 1) × Pins 1 v) ⊎ ((which ≡ 2) × GateRest v))
@@ -105,10 +120,15 @@ one-pin v pins = go (pins-list 1 v pins)
     go (p ∷ q ∷ qs, some-pin, few, numbers, is) = absurd (omega arith)
 
 -- a gate from its word and its pins
-worded : (which : ℕ) (ps : List ℕ) → 5 ≤ which → which < pieceCount → 1 ≤ length ps → length ps ≤ 4 → ((p : ℕ) → p among ps → p ≤ lastNumber)
-    → Worded (record { kind = which - 4; pins = ps })
-worded which ps low high some-pin few numbers =
-    record { a-gate = omega arith; a-word = omega arith; some-pin = some-pin; four-pins = few; numbers = numbers }
+pub worded : (which : ℕ) (ps : List ℕ) → 5 ≤ which → which < pieceCount → Taken which ps → Worded (record { kind = which - 4; pins = ps })
+worded which ps low high (some-pin, none, few, numbers) = record {
+  a-gate = omega arith;
+  a-word = omega arith;
+  some-pin = λ l. some-pin (omega arith);
+  four-pins = few;
+  no-pin = λ l. none (omega arith);
+  numbers = numbers;
+}
 
 -- so the statements that may follow are the pieces and what may follow them
 to-statement : (from k : ℕ) (s : List ℕ) → PieceThen from 3 k Behind s → Statements from k s
@@ -120,10 +140,10 @@ to-statement from k s (which, low, high, v, follows, e) =
     (λ (w1, pins).
     let (o, few, is) = one-pin v pins in
     (output o, rw w1 at low, an-output few, e ∙ ap (λ (j : ℕ). piece j k ++ v) w1 ∙ ap (λ (z : List ℕ). piece 1 k ++ z) is ∙ sym (output-is k o)))
-    (λ (w2, (word, five, thirteen, u, pins, is)).
-    let (ps, some-pin, few, numbers, so) = pins-list 4 u pins in
+    (λ (w2, (word, five, last, u, pins, is)).
+    let (ps, taken, so) = word-list word u pins in
     let g : Record = record { kind = word - 4; pins = ps } in
-    let w = worded word ps five thirteen some-pin few numbers in
+    let w = worded word ps five last taken in
     let kind : word ≡ 4 + (word - 4) = omega arith in (
       gate g,
       rw w2 at low,
@@ -141,15 +161,23 @@ from-statement from k s (output o, low, an-output few, e) =
 from-statement from k s (gate g, low, a-gate w, e) =
     let least = w .a-gate in
     let most = w .a-word in
-    let pins = list-pins 4 (g .pins) (w .some-pin) (w .four-pins) (w .numbers) in
+    let pins = list-word (4 + g .kind) (g .pins) ((λ l. w .some-pin (omega arith)), (λ l. w .no-pin (omega arith)), w .four-pins, w .numbers) in
     (2, low, lit< tt, piece (4 + g .kind) 0 ++ pinsRest (g .pins), inr (inr (refl, (4 + g .kind, omega arith, omega arith, pinsRest (g .pins), pins, refl))), e ∙ gate-is k g w)
+
+-- something may follow each word
+word-some : (which : ℕ) → (v : List ℕ) × WordThen which v
+word-some which =
+    ⊎-elim
+    (λ e. let (v, is) = pins-some 4 (lit< tt) in (v, inr (ltb-true which tiePiece e, is)))
+    (λ e. ([], inl (ltb-false which tiePiece e, refl)))
+    (way (ltb which tiePiece))
 
 -- where they stop: before the end of the first piece, and behind it
 behind-some : (from which : ℕ) → from ≤ which → which < 3 → (v : List ℕ) × Behind which v
 behind-some from zero low high = ([], inl (refl, refl))
 behind-some from (suc zero) low high = let (v, is) = pins-some 1 (lit< tt) in (v, inr (inl (refl, is)))
 behind-some from (suc (suc zero)) low high =
-    let (v, is) = pins-some 4 (lit< tt) in (piece 5 0 ++ v, inr (inr (refl, (5, lit≤ tt, lit< tt, v, is, refl))))
+    let (v, is) = word-some 5 in (piece 5 0 ++ v, inr (inr (refl, (5, lit≤ tt, lit< tt, v, is, refl))))
 behind-some from (suc (suc (suc n))) low high = absurd (omega arith)
 
 pub line-stops : {from k : ℕ} {rest : List ℕ} {m : ℕ} → NoPiece from 3 k rest m → Stops (Statements from k) rest m
@@ -174,8 +202,11 @@ module _ (from k : ℕ) (rest : List ℕ) (n m : ℕ) where
 
 -- a gate's, from its word on
 pub word-stops : {rest : List ℕ} {m : ℕ} → NoPiece 5 pieceCount 0 rest m → Stops GateRest rest m
-word-stops nowhere = piece-stops nowhere (λ which low high. pins-some 4 (lit< tt))
+word-stops nowhere = piece-stops nowhere (λ which low high. word-some which)
 
-pub word-behind : {rest : List ℕ} {m : ℕ} (which n : ℕ) → Chosen 5 pieceCount 0 rest (Took which n) → Stops (Pins 4) (drop n rest) m → Stops GateRest rest (n + m)
-word-behind {rest} {m} which n (low, high, long, inside, is) stops =
-    rw long (piece-behind 0 {K = λ w. Pins 4} which low high (lit≤ tt) (rw long at is) (rw long at stops))
+pub word-behind : {rest : List ℕ} {m : ℕ} (which n : ℕ) → which < tiePiece → Chosen 5 pieceCount 0 rest (Took which n) → Stops (Pins 4) (drop n rest) m
+    → Stops GateRest rest (n + m)
+word-behind {rest} {m} which n no-tie (low, high, long, inside, is) stops =
+    let pins : Stops (WordThen which) (drop n rest) m =
+    stops-same (λ s so. inr (no-tie, so)) (λ s. ⊎-elim (λ (tied, none). absurd (omega arith)) (λ (l, so). so)) stops in
+    rw long (piece-behind 0 {K = WordThen} which low high (lit≤ tt) (rw long at is) (rw long at pins))

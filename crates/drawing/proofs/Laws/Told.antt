@@ -3,11 +3,11 @@ use mathlib.Core.Path.{_≡_, refl, sym, ap, _∙_}
 use mathlib.Core.Logic.{⊎-elim, inl, inr}
 use mathlib.Core.Bool.{true}
 use mathlib.Core.List.{List, [], _∷_, _++_, append-assoc, append-cancel-left}
-use Prim.Native.Nat.{ℕ, _+_, _≤_}
+use Prim.Native.Nat.{ℕ, _+_, _≤_, _<_}
 use native.Mathlib.Nat.{le-refl}
 use native.Mathlib.Omega.{arith}
-use lib.Dec.{eqb, lit≤}
-use lib.ListN.{length, take}
+use lib.Dec.{eqb}
+use lib.ListN.{length, take, length-append}
 use borrow.Author.Tests.{eqb-true, eqb-false}
 use Rattle.board.specs.Lists.{_among_}
 use Rattle.board.specs.Board.{Record}
@@ -40,31 +40,37 @@ number-split m n c d x y few small other another e =
 abbrev Few : List ℕ → Type 0
 Few ps = (p : ℕ) → p among ps → p ≤ lastNumber
 
-pins-told : (ps qs : List ℕ) → 1 ≤ length ps → 1 ≤ length qs → Few ps → Few qs → pinsRest ps ≡ pinsRest qs → ps ≡ qs
+pins-byte : (p : ℕ) (ps : List ℕ) → 0 < length (pinsRest (p ∷ ps))
 unfolding piece pieceForms
-pins-told [] qs h l few small e = absurd (omega arith)
-pins-told (p ∷ ps) [] h l few small e = absurd (omega arith)
-pins-told (p ∷ []) (q ∷ []) h l few small e =
+pins-byte p [] = rw length-append (omega arith)
+pins-byte p (q ∷ qs) = rw (length-append, length-append) (omega arith)
+
+pins-told : (ps qs : List ℕ) → Few ps → Few qs → pinsRest ps ≡ pinsRest qs → ps ≡ qs
+unfolding piece pieceForms
+pins-told [] [] few small e = refl
+pins-told [] (q ∷ qs) few small e = absurd (omega (arith, pins-byte q qs, ap length e))
+pins-told (p ∷ ps) [] few small e = absurd (omega (arith, pins-byte p ps, ap length e))
+pins-told (p ∷ []) (q ∷ []) few small e =
     let (same, after) = number-split p q 41 41 _ _ (few p (inl refl)) (small q (inl refl)) (λ digit. omega arith) (λ digit. omega arith) e in
     cc
-pins-told (p ∷ []) (q ∷ r ∷ rs) h l few small e =
+pins-told (p ∷ []) (q ∷ r ∷ rs) few small e =
     let (same, after) =
     number-split p q 41 44 _ _ (few p (inl refl)) (small q (inl refl)) (λ digit. omega arith) (λ digit. omega arith)
     (e ∙ append-assoc (decimal q) (piece 4 0) (pinsRest (r ∷ rs))) in
     let differ : _≡_ {A = ℕ} 41 44 = cc in
     absurd (omega arith)
-pins-told (p ∷ t ∷ ts) (q ∷ []) h l few small e =
+pins-told (p ∷ t ∷ ts) (q ∷ []) few small e =
     let (same, after) =
     number-split p q 44 41 _ _ (few p (inl refl)) (small q (inl refl)) (λ digit. omega arith) (λ digit. omega arith)
     (sym (append-assoc (decimal p) (piece 4 0) (pinsRest (t ∷ ts))) ∙ e) in
     let differ : _≡_ {A = ℕ} 44 41 = cc in
     absurd (omega arith)
-pins-told (p ∷ t ∷ ts) (q ∷ r ∷ rs) h l few small e =
+pins-told (p ∷ t ∷ ts) (q ∷ r ∷ rs) few small e =
     let (same, after) =
     number-split p q 44 44 _ _ (few p (inl refl)) (small q (inl refl)) (λ digit. omega arith) (λ digit. omega arith)
     (sym (append-assoc (decimal p) (piece 4 0) (pinsRest (t ∷ ts))) ∙ e ∙ append-assoc (decimal q) (piece 4 0) (pinsRest (r ∷ rs))) in
     let more : t ∷ ts ≡ r ∷ rs =
-    pins-told (t ∷ ts) (r ∷ rs) (omega arith) (omega arith) (λ n m. few n (inr m)) (λ n m. small n (inr m))
+    pins-told (t ∷ ts) (r ∷ rs) (λ n m. few n (inr m)) (λ n m. small n (inr m))
     (append-cancel-left (piece 4 0) (pinsRest (t ∷ ts)) (pinsRest (r ∷ rs)) after) in
     cc
 
@@ -72,7 +78,7 @@ pins-told (p ∷ t ∷ ts) (q ∷ r ∷ rs) h l few small e =
 output-told : (k o p : ℕ) → o ≤ lastNumber → p ≤ lastNumber → outputText o ≡ outputText p → o ≡ p
 output-told k o p few small e =
     let pins = append-cancel-left (piece 1 k) (pinsRest (o ∷ [])) (pinsRest (p ∷ [])) (sym (output-is k o) ∙ e ∙ output-is k p) in
-    let same = pins-told (o ∷ []) (p ∷ []) (lit≤ tt) (lit≤ tt) (one few) (one small) pins in
+    let same = pins-told (o ∷ []) (p ∷ []) (one few) (one small) pins in
     cc
   where
     one : {n : ℕ} → n ≤ lastNumber → Few (n ∷ [])
@@ -93,7 +99,7 @@ gate-told k g h w v e =
     let pins =
     append-cancel-left (piece (4 + h .kind) 0) (pinsRest (g .pins)) (pinsRest (h .pins))
     (ap (λ (j : ℕ). piece (4 + j) 0 ++ pinsRest (g .pins)) (sym kind) ∙ words) in
-    ap (λ (j : ℕ). made j (g .pins)) kind ∙ ap (made (h .kind)) (pins-told (g .pins) (h .pins) (w .some-pin) (v .some-pin) (w .numbers) (v .numbers) pins))
+    ap (λ (j : ℕ). made j (g .pins)) kind ∙ ap (made (h .kind)) (pins-told (g .pins) (h .pins) (w .numbers) (v .numbers) pins))
     (λ q.
     let other = eqb-false (g .kind) (h .kind) q in
     let n = length (piece (4 + g .kind) 0) in

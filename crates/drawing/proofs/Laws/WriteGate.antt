@@ -1,22 +1,26 @@
 -- A gate's statement from an image: its pieces and its pins' numbers.
 use mathlib.Core.Path.{_≡_, refl, sym, ap, _∙_}
+use mathlib.Core.Logic.{⊎-elim}
+use mathlib.Core.Bool.{true, false, cond}
 use mathlib.Core.List.{List, [], _∷_, _++_, append-assoc, append-nil}
 use Prim.Native.Nat.{ℕ, suc, _+_, _-_, _*_, _≤_, _<_}
 use native.Mathlib.Nat.{not-suc-le-zero}
 use native.Mathlib.Omega.{arith}
+use lib.Dec.{ltb}
 use lib.ListN.{length, getD, take, drop}
+use borrow.Author.Tests.{ltb-true, ltb-false}
 use lib.Seq.{take-append-add, take-append-le, length-take-le}
 use Rattle.board.specs.Lists.{text, same}
 use Rattle.board.specs.Limits.{lastKind}
 use Rattle.board.specs.Board.{Record, recordOf}
-use Rattle.board.proofs.Lists.{same-is, build-length, build-at}
+use Rattle.board.proofs.Lists.{way, same-is, build-length, build-at}
 use Rattle.image.specs.Bytes.{byteAt, wordAt}
 use Rattle.image.specs.Image.{lineCount, firstRecord, recordPlace, recordAt, boardOf}
 use Rattle.image.proofs.Laws.Records.{records-at}
 use Rattle.text.specs.Text.{Written, decimal, form, each}
 use Rattle.text.proofs.Laws.Made.{next}
 use Rattle.text.proofs.Laws.Each.{each-at, each-past}
-use Rattle.drawing.specs.Form.{words, inputText, outputText, gateText, Worded}
+use Rattle.drawing.specs.Form.{words, inputText, outputText, gateText, firstTie, Worded}
 use Rattle.drawing.specs.Inner.{pieceForms, piece}
 use Rattle.drawing.proofs.Laws.Pieces.{at-each}
 
@@ -54,10 +58,27 @@ unfolding each
 each-same f g h [] = refl
 each-same f g h (n ∷ ns) = rw (h n, each-same f g h ns)
 
--- the piece of a word
-pub word-piece : (i k : ℕ) → k < lastKind → piece (4 + suc k) i ≡ getD words (suc k) [] ++ text "(n"
+-- the piece of a word: it opens the brackets before a pin, and those of a tie it closes too
+abbrev opens : ℕ → List ℕ
+opens k = cond (ltb k firstTie) (text "(n") (text "()\n")
+
+word-is : (i k : ℕ) → k < lastKind → piece (4 + suc k) i ≡ getD words (suc k) [] ++ opens (suc k)
 unfolding piece pieceForms same
-word-piece i k h = same-is _ _ (at-each (λ j. same (piece (4 + suc j) i) (getD words (suc j) [] ++ text "(n")) lastKind tt k h)
+word-is i k h = same-is _ _ (at-each (λ j. same (piece (4 + suc j) i) (getD words (suc j) [] ++ opens (suc j))) lastKind tt k h)
+
+pub word-piece : (i : ℕ) (r : Record) → Worded r → piece (4 + r .kind) i ≡ getD words (r .kind) [] ++ opens (r .kind)
+word-piece i r w =
+    let kind : suc (r .kind - 1) ≡ r .kind = omega (arith, w .a-gate) in
+    rw kind at (word-is i (r .kind - 1) (omega (arith, w .a-gate, w .a-word)))
+
+-- a gate with a pin is no tie, and one without is one
+has-pins : (r : Record) → Worded r → 1 ≤ length (r .pins) → ltb (r .kind) firstTie ≡ true
+has-pins r w some =
+    ⊎-elim (λ e. e) (λ e. absurd (omega (arith, some, ap length (w .no-pin (ltb-false (r .kind) firstTie e))))) (way (ltb (r .kind) firstTie))
+
+has-none : (r : Record) → Worded r → length (r .pins) ≡ 0 → ltb (r .kind) firstTie ≡ false
+has-none r w none =
+    ⊎-elim (λ e. absurd (omega (arith, none, w .some-pin (ltb-true (r .kind) firstTie e)))) (λ e. e) (way (ltb (r .kind) firstTie))
 
 pub input-text : (i : ℕ) → inputText i ≡ piece 0 i
 unfolding inputText piece pieceForms
@@ -70,12 +91,13 @@ output-text o = refl
 regroup : (name word bracket n p ps close : List ℕ) → name ++ word ++ bracket ++ (n ++ (p ++ []) ++ ps) ++ close ≡ name ++ (word ++ (bracket ++ n) ++ (p ++ (ps ++ close)))
 regroup name word bracket n p ps close = simp (append-assoc, append-nil)
 
--- a gate's text, of one pin at least
-pub gate-text : (i : ℕ) (r : Record) → Worded r → gateText i r ≡ piece 2 i ++ (piece (4 + r .kind) i ++ (decimal (getD (r .pins) 0 0) ++ (each (nextPin i) (drop 1 (r .pins)) ++ piece 3 i)))
+alone : (name word bracket close : List ℕ) → name ++ word ++ bracket ++ [] ++ close ≡ name ++ (word ++ (bracket ++ close))
+alone name word bracket close = simp (append-assoc, append-nil)
+
+-- a gate's text, of one pin at least, and of none
+pub gate-text : (i : ℕ) (r : Record) → Worded r → 1 ≤ length (r .pins) → gateText i r ≡ piece 2 i ++ (piece (4 + r .kind) i ++ (decimal (getD (r .pins) 0 0) ++ (each (nextPin i) (drop 1 (r .pins)) ++ piece 3 i)))
 unfolding gateText piece pieceForms
-gate-text i r w =
-    let kind : suc (r .kind - 1) ≡ r .kind = omega (arith, w .a-gate) in
-    go (r .pins) (w .some-pin) (rw kind at (word-piece i (r .kind - 1) (omega (arith, w .a-gate, w .a-word))))
+gate-text i r w some = go (r .pins) some (rw (has-pins r w some) at (word-piece i r w))
   where
     go : (ps : List ℕ) → 1 ≤ length ps → piece (4 + r .kind) i ≡ getD words (r .kind) [] ++ text "(n"
         → gateText i (record { kind = r .kind; pins = ps })
@@ -90,6 +112,15 @@ gate-text i r w =
         ∙ ap (λ (l : List ℕ). name ++ (word ++ text "(n" ++ (decimal p ++ (l ++ close)))) same-pins
         ∙ ap (λ (l : List ℕ). name ++ (l ++ (decimal p ++ (each (nextPin i) ps ++ close)))) (sym e)
 
+pub tie-text : (i : ℕ) (r : Record) → Worded r → length (r .pins) ≡ 0 → gateText i r ≡ piece 2 i ++ piece (4 + r .kind) i
+unfolding gateText piece pieceForms
+tie-text i r w none = go (r .pins) none (rw (has-none r w none) at (word-piece i r w))
+  where
+    go : (ps : List ℕ) → length ps ≡ 0 → piece (4 + r .kind) i ≡ getD words (r .kind) [] ++ text "()\n"
+        → gateText i (record { kind = r .kind; pins = ps }) ≡ piece 2 i ++ piece (4 + r .kind) i
+    go [] h e = alone (piece 2 i) (getD words (r .kind) []) (text "(") (text ")\n") ∙ ap (λ (l : List ℕ). piece 2 i ++ l) (sym e)
+    go (p ∷ ps) h e = absurd (omega arith)
+
 -- what is left from a pin on
 module _ (i : ℕ) (pins : List ℕ) (j : ℕ) where
   abbrev pub pinsLeft : List ℕ
@@ -102,14 +133,14 @@ module _ (i : ℕ) (pins : List ℕ) (j : ℕ) where
   pins-done e = rw (each-past (nextPin i) pins j e)
 
 -- the statement as it is made: up to the first pin, and by a pin more
-pub gate-begun : (i : ℕ) (r : Record) → Worded r → (a b c : List ℕ) → a ≡ piece 2 i → b ≡ a ++ piece (4 + r .kind) i → c ≡ b ++ decimal (getD (r .pins) 0 0)
+pub gate-begun : (i : ℕ) (r : Record) → Worded r → 1 ≤ length (r .pins) → (a b c : List ℕ) → a ≡ piece 2 i → b ≡ a ++ piece (4 + r .kind) i → c ≡ b ++ decimal (getD (r .pins) 0 0)
     → gateText i r ≡ c ++ pinsLeft i (r .pins) 1
-gate-begun i r w a b c named opened one =
+gate-begun i r w some a b c named opened one =
     let all = gateText i r in
     let word = piece (4 + r .kind) i in
     let pin = decimal (getD (r .pins) 0 0) in
     let rest = pinsLeft i (r .pins) 1 in
-    let from-a = next all [] (piece 2 i ++ (word ++ (pin ++ rest))) (gate-text i r w) (piece 2 i) (word ++ (pin ++ rest)) a refl named in
+    let from-a = next all [] (piece 2 i ++ (word ++ (pin ++ rest))) (gate-text i r w some) (piece 2 i) (word ++ (pin ++ rest)) a refl named in
     let from-b = next all a (word ++ (pin ++ rest)) from-a word (pin ++ rest) b refl opened in
     next all b (pin ++ rest) from-b pin rest c refl one
 

@@ -1,24 +1,26 @@
--- The five-valued gates of every kind and of one to four pins, from the table's three sections of four pins: a kind that asks the opposite
+-- The five-valued gates of every kind and of up to four pins, from the table's three sections of four pins: a kind that asks the opposite
 -- has the opposite value, and a pin that changes nothing of what a kind asks changes nothing of its value.
 use mathlib.Core.Path.{_≡_, refl, sym, ap, ap₂, _∙_, fun-ext}
 use mathlib.Core.Logic.{⊎-elim}
 use mathlib.Core.List.{List, [], _∷_, _++_, map}
-use mathlib.Core.Bool.{Bool, true, false, not, cond}
+use mathlib.Core.Bool.{Bool, true, false, not, cond, _||_}
 use Prim.Native.Nat.{ℕ, zero, suc, _+_, _-_, _/_, _%_, _≤_, _<_}
-use native.Mathlib.Nat.{add-zero, add-suc, le-of-suc-le-suc, not-suc-le-zero}
+use native.Mathlib.Nat.{add-zero, zero-add, add-suc, le-of-suc-le-suc, not-suc-le-zero}
 use native.Mathlib.Numerals.{add-one}
 use native.Mathlib.Omega.{arith}
-use lib.Dec.{eqb, eqb·suc-suc}
-use lib.ListN.{length, getD, length-append, List·getD-eq-default, List·getD-map}
+use lib.Dec.{eqb, ltb, eqb→eq, ltb→lt, eqb·suc-suc}
+use lib.ListN.{length, getD, length-append, List·getD-eq-default, List·getD-map, List·getD-append}
 use lib.Seq.{ext-getD}
-use borrow.Author.Tests.{eqb-true, eqb-false, eq-eqb, ne-eqb}
+use borrow.Author.Tests.{eqb-true, eqb-false, eq-eqb, ne-eqb, le-ltb}
 use Rattle.board.specs.Lists.{somewhere, bit, ones, build}
 use Rattle.board.specs.Limits.{lastKind}
+use Rattle.board.specs.Fine.{most}
 use Rattle.board.specs.Gate.{kinds, asks, gate}
 use Rattle.board.specs.Five.{goodHalf, faultyHalf, pair, fillings, agreed, everyFilling, gate5}
 use Rattle.board.proofs.Lists.{way, somewhere-same, somewhere-map, ones-end, build-length, build-at}
 use Rattle.five.specs.Table.{kindOf}
 use Rattle.five.proofs.Laws.Lists.{any-default}
+use Rattle.five.proofs.Laws.Table.{from}
 
 -- the opposite of a value: 0 and 1, D and D-bar change places, and an x stays x
 abbrev opposites : List ℕ
@@ -81,9 +83,13 @@ gate-opposite k l h vs =
     rw (h (length gs) (ones gs), h (length hs) (ones hs)) (pair-opposite (asks k (length gs) (ones gs)) (asks k (length hs) (ones hs))))))
     ∙ filling-opposite (λ gs hs. pair (gate k gs) (gate k hs)) vs
 
--- how each kind from 1 up goes by the table: twice its section, and one more for the opposite of what stands there
+-- how each kind from 1 up goes by the table: twice its section, and one more for the opposite of what stands there; a line that is tied goes as
+-- exclusive-or of no pins
+abbrev pinWays : List ℕ
+pinWays = 0 ∷ 1 ∷ 0 ∷ 1 ∷ 2 ∷ 3 ∷ 4 ∷ 5 ∷ []
+
 abbrev pub ways : List ℕ
-ways = 0 ∷ 1 ∷ 0 ∷ 1 ∷ 2 ∷ 3 ∷ 4 ∷ 5 ∷ []
+ways = pinWays ++ (4 ∷ 5 ∷ [])
 
 -- what a way by the table asks, and the value that it has where its section has v
 abbrev asked : ℕ → ℕ → ℕ → Bool
@@ -92,31 +98,47 @@ asked w n s = let t = asks (kindOf (w / 2)) n s in cond (eqb (w % 2) 1) (not t) 
 abbrev pub turned : ℕ → ℕ → ℕ
 turned w v = cond (eqb (w % 2) 1) (opposite v) v
 
--- each kind from 1 up asks what its way by the table asks
-kinds-by : (n s : ℕ) → kinds n s ≡ false ∷ map (λ w. asked w n s) ways
+-- each kind that has pins asks what its way by the table asks
+kinds-by : (n s : ℕ) → kinds n s ≡ false ∷ map (λ w. asked w n s) pinWays ++ (false ∷ true ∷ [])
 unfolding kinds
 kinds-by n s = refl
 
-asks-by : (k : ℕ) → k < length ways → (n s : ℕ) → asks (suc k) n s ≡ asked (getD ways k 2) n s
+asks-by : (k : ℕ) → k < length pinWays → (n s : ℕ) → asks (suc k) n s ≡ asked (getD ways k 2) n s
 asks-by k l n s =
+    let pinned = map (λ w. asked w n s) pinWays in
     ap (λ (ts : List Bool). getD ts (suc k) false) (kinds-by n s)
-    ∙ any-default (map (λ w. asked w n s) ways) k false (asked 2 n s) l
-    ∙ List·getD-map (λ w. asked w n s) ways k 2
+    ∙ List·getD-append pinned (false ∷ true ∷ []) false k l
+    ∙ any-default pinned k false (asked 2 n s) l
+    ∙ List·getD-map (λ w. asked w n s) pinWays k 2
+    ∙ ap (λ w. asked w n s) (sym (List·getD-append pinWays (4 ∷ 5 ∷ []) 2 k l))
 
 -- so its value is what that way has
-gate-by : (k : ℕ) → k < length ways → (vs : List ℕ) → gate5 (suc k) vs ≡ turned (getD ways k 2) (gate5 (kindOf (getD ways k 2 / 2)) vs)
-gate-by k l vs =
+pin-gate-by : (k : ℕ) → k < length pinWays → (vs : List ℕ) → gate5 (suc k) vs ≡ turned (getD ways k 2) (gate5 (kindOf (getD ways k 2 / 2)) vs)
+pin-gate-by k l vs =
     let w = getD ways k 2 in
     ⊎-elim
     (λ (e : eqb (w % 2) 1 ≡ true). rw e (gate-opposite (kindOf (w / 2)) (suc k) (λ n s. asks-by k l n s ∙ rw e) vs))
     (λ (e : eqb (w % 2) 1 ≡ false). rw e (gate-same (kindOf (w / 2)) (suc k) (λ n s. asks-by k l n s ∙ rw e) vs))
     (way (eqb (w % 2) 1))
 
-pub gate-goes : (kind w v : ℕ) (vs : List ℕ) → 0 < kind → kind ≤ lastKind → w ≡ getD ways (kind - 1) 2 → v ≡ gate5 (kindOf (w / 2)) vs
+-- and of no pins that of every kind is: computed over all kinds, and so is which of them have pins
+bare-by : ℕ → ℕ → Bool
+unfolding everyFilling kinds
+bare-by k w = eqb (gate5 (suc k) []) (turned w (gate5 (kindOf (w / 2)) []))
+
+abbrev has-way : ℕ → ℕ → Bool
+has-way k w = ltb (most (suc k)) 1 || ltb k (length pinWays)
+
+gate-by : (k : ℕ) → k < length ways → (vs : List ℕ) → length vs ≤ most (suc k) → gate5 (suc k) vs ≡ turned (getD ways k 2) (gate5 (kindOf (getD ways k 2 / 2)) vs)
+unfolding bare-by
+gate-by k l [] few = eqb→eq _ _ (rw zero-add at (from bare-by ways 0 tt k 2 l))
+gate-by k l (v ∷ vs) few = pin-gate-by k (ltb→lt k _ (rw (zero-add, le-ltb (most (suc k)) 1 (omega arith)) at (from has-way ways 0 tt k 2 l))) (v ∷ vs)
+
+pub gate-goes : (kind w v : ℕ) (vs : List ℕ) → 0 < kind → kind ≤ lastKind → length vs ≤ most kind → w ≡ getD ways (kind - 1) 2 → v ≡ gate5 (kindOf (w / 2)) vs
     → turned w v ≡ gate5 kind vs
-gate-goes kind w v vs some few e q =
+gate-goes kind w v vs some known few e q =
     let k : suc (kind - 1) ≡ kind = omega arith in
-    sym (rw (k, ← e, ← q) at (gate-by (kind - 1) (omega arith) vs))
+    sym (rw (k, ← e, ← q) at (gate-by (kind - 1) (omega arith) vs (rw k few)))
 
 pub turned-opposite : (w v r : ℕ) → w % 2 ≡ 1 → v < 5 → r ≡ getD opposites v 2 → r ≡ turned w v
 turned-opposite w v r e l is = rw (eq-eqb (w % 2) 1 e) (is ∙ any-default opposites v 2 v l)
@@ -170,7 +192,7 @@ idle-filler (suc zero) l = (refl, refl, λ n s. rw add-zero)
 idle-filler (suc (suc zero)) l = (refl, refl, λ n s. rw add-zero)
 idle-filler (suc (suc (suc m))) l = absurd (not-suc-le-zero (le-of-suc-le-suc (le-of-suc-le-suc (le-of-suc-le-suc l))))
 
--- a gate of one to four pins, absent ones filled
+-- a gate of up to four pins, absent ones filled
 four-pins : (section : ℕ) → section < 3 → (vs : List ℕ) → length vs ≤ 4 →
     let w = getD fillers section 2 in
     gate5 (kindOf section) (getD vs 0 w ∷ getD vs 1 w ∷ getD vs 2 w ∷ getD vs 3 w ∷ []) ≡ gate5 (kindOf section) vs

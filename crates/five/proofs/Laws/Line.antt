@@ -34,9 +34,12 @@ module _ (φ : Condition) (s : List ℕ) (p i : ℕ) (below : List ℕ) where
   absent-pin j w l = sym (List·getD-eq-default (readAt φ s p i below) w (rw read-length l))
 
   module _ (ok : Gated s p φ below) where
-    -- at most four pins are read
+    -- no more pins are read than the kind has, and so at most four
+    pub few-named : length (readAt φ s p i below) ≤ most (byteAt s p)
+    few-named = rw read-length (ok .few)
+
     pub few-read : length (readAt φ s p i below) ≤ 4
-    few-read = omega (arith, read-length, ok .few, getD-below 5 mostPins tt (byteAt s p) 0 (lit< tt))
+    few-read = omega (arith, few-named, getD-below 5 mostPins tt (byteAt s p) 0 (lit< tt))
 
     pub present-pin : (j w : ℕ) → j < byteAt s (p + 1)
         → heldAt hold5 (stuckPin φ i j) (getD below (wordAt s (p + 2 + 2 * j)) 0) ≡ getD (readAt φ s p i below) j w

@@ -21,7 +21,7 @@ abbrev pub every : (ℕ → ℕ → Bool) → ℕ → List ℕ → Bool
 every f i [] = true
 every f i (x ∷ xs) = f i x && every f (suc i) xs
 
-from : (f : ℕ → ℕ → Bool) (xs : List ℕ) (i : ℕ) → T (every f i xs) → (k d : ℕ) → k < length xs → T (f (i + k) (getD xs k d))
+pub from : (f : ℕ → ℕ → Bool) (xs : List ℕ) (i : ℕ) → T (every f i xs) → (k d : ℕ) → k < length xs → T (f (i + k) (getD xs k d))
 from f [] i t k d h = absurd (not-suc-le-zero h)
 from f (x ∷ xs) i t zero d h = rw add-zero (and-yes (f i x) (every f (suc i) xs) t .0)
 from f (x ∷ xs) i t (suc k) d h = rw (add-suc, ← (suc-add i k)) (from f xs (suc i) (and-yes (f i x) (every f (suc i) xs) t .1) k d (le-of-suc-le-suc h))

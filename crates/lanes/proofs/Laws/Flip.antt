@@ -100,12 +100,12 @@ apart-lane g f t j inside (suc n) =
     (λ (e : t n ≡ false). rw (e, zero-bit j) (either before false))
     (way (t n)))
 
--- every kind of a board within the rules is one of the table's
+-- every kind of a board within the rules is one of the table's, and no line has more pins than its kind
 pub known-kinds : (b : Board) → Fine b → Known b
 known-kinds b fine i =
     ⊎-elim
-    (λ (e : ltb i (size b) ≡ true). fine .records i (ltb-true i _ e) .kind)
-    (λ (e : ltb i (size b) ≡ false). rw (List·getD-eq-default (b .lines) (record { kind = 0; pins = [] }) (ltb-false i _ e)) zero-le)
+    (λ (e : ltb i (size b) ≡ true). let stands = fine .records i (ltb-true i _ e) in (stands .kind, stands .few))
+    (λ (e : ltb i (size b) ≡ false). rw (List·getD-eq-default (b .lines) (record { kind = 0; pins = [] }) (ltb-false i _ e)) (zero-le, zero-le))
     (way (ltb i (size b)))
 
 module _ (b : Board) (fine : Fine b) (base number : ℕ) (base-is : base ≡ 512 * number) (w : ℕ) where

@@ -1,7 +1,7 @@
 -- `drawing::statements::put_gate` meets its contract: what is made, and the pins left with the end, is the gate's statement.
-use mathlib.Core.Path.{_≡_, refl, sym, _∙_}
-use mathlib.Core.List.{_++_}
-use Prim.Native.Nat.{_+_, _*_, _-_, _≤_, _<_}
+use mathlib.Core.Path.{_≡_, refl, sym, ap, _∙_}
+use mathlib.Core.List.{List, _++_}
+use Prim.Native.Nat.{ℕ, _+_, _*_, _-_, _≤_, _<_}
 use native.Mathlib.Omega.{arith}
 use lib.Dec.{lit<}
 use lib.ListN.{length, take}
@@ -9,8 +9,9 @@ use Rattle.board.specs.Board.{recordOf}
 use Rattle.image.specs.Image.{boardOf}
 use Rattle.image.proofs.Laws.Fine.{lines-few, line-count}
 use Rattle.drawing.specs.Form.{gateText, Worded}
+use Rattle.drawing.specs.Inner.{piece}
 use Rattle.drawing.specs.Statements.{statementRoom}
-use Rattle.drawing.proofs.Laws.WriteGate.{line-kind, line-pin, pinsLeft, gate-begun, gate-more, pins-done}
+use Rattle.drawing.proofs.Laws.WriteGate.{line-kind, line-pin, tie-text, pinsLeft, gate-begun, gate-more, pins-done}
 use Rattle.drawing.proofs.Laws.ImageDrawn.{accepted-drawn}
 use borrow.Author.Needs.{needs}
 use Rattle.drawing.proofs.statements.put_gate.Statement.{statement}
@@ -59,9 +60,26 @@ add-piece-requires-2 c κs =
     let start = kinded .before .before .before .before in
     (omega (arith, kind-is kinded, worded start .a-word), omega (arith, named .add-piece .ensures .1, named .add-piece .kept .1 .1 .0, start .pre .2))
 
+-- without pins that is all
+returns : tie.Need-returns Inv-loop μ-loop
+returns c =
+    let opened = c .before .before .before in
+    let named = opened .before .before .before .before in
+    let counted = named .before .before in
+    let kinded = counted .before in
+    let start = kinded .before .before .before .before in
+    let i = start .args .line in
+    let r = recordOf (boardOf (start .args .img .now)) i in
+    let none : length (r .pins) ≡ 0 = omega (arith, counted .pin-count .ensures, c .if1 .taken) in
+    record {
+      room = omega (arith, opened .add-piece2 .ensures .1, opened .add-piece2 .kept .1 .1 .0, named .add-piece .ensures .1, named .add-piece .kept .1 .1 .0, start .pre .2);
+      is = rw (kind-is kinded) at (opened .add-piece2 .ensures .2) ∙ ap (λ (z : List ℕ). z ++ piece (4 + r .kind) i) (named .add-piece .ensures .2)
+          ∙ sym (tie-text i r (worded start) none);
+    }
+
 add-pin-requires : tie.Need-add-pin-requires Inv-loop μ-loop
 add-pin-requires c κs =
-    let opened = c .before .before .before in
+    let opened = c .before .before .before .before in
     let named = opened .before .before .before .before in
     let start = named .before .before .before .before .before .before .before in
     (few start, lit< tt, omega (arith, opened .add-piece2 .ensures .1, opened .add-piece2 .kept .1 .1 .0, named .add-piece .ensures .1, named .add-piece .kept .1 .1 .0, start .pre .2))
@@ -70,7 +88,7 @@ add-pin-requires c κs =
 room : (c : tie.After-slice-known4 Inv-loop μ-loop) → statementRoom ≤ length (c .before .before .add-pin .last .1 .1 .1 .0)
 room c =
     let pinned = c .before .before in
-    let opened = pinned .before .before .before .before in
+    let opened = pinned .before .before .before .before .before in
     let named = opened .before .before .before .before in
     let start = named .before .before .before .before .before .before .before in
     omega (arith, pinned .add-pin .kept .1 .1 .1 .0, opened .add-piece2 .kept .1 .1 .0, named .add-piece .kept .1 .1 .0, start .pre .2)
@@ -78,7 +96,7 @@ room c =
 loop-holds : tie.Need-loop-holds Inv-loop μ-loop
 loop-holds c =
     let pinned = c .before .before in
-    let opened = pinned .before .before .before .before in
+    let opened = pinned .before .before .before .before .before in
     let named = opened .before .before .before .before in
     let counted = named .before .before in
     let kinded = counted .before in
@@ -86,10 +104,11 @@ loop-holds c =
     let i = start .args .line in
     let r = recordOf (boardOf (start .args .img .now)) i in
     let word = rw (kind-is kinded) at (opened .add-piece2 .ensures .2) in
-    let number = line-pin (start .args .img .now) i (start .pre .1 .inside) 0 (worded start .some-pin) in
-    let one = gate-begun i r (worded start) _ _ _ (named .add-piece .ensures .2) word (rw (← number) at (pinned .add-pin .ensures .2)) in (
+    let some : 1 ≤ length (r .pins) = omega (arith, counted .pin-count .ensures, pinned .before .before .if1 .left) in
+    let number = line-pin (start .args .img .now) i (start .pre .1 .inside) 0 some in
+    let one = gate-begun i r (worded start) some _ _ _ (named .add-piece .ensures .2) word (rw (← number) at (pinned .add-pin .ensures .2)) in (
       omega arith,
-      omega (arith, counted .pin-count .ensures, worded start .some-pin),
+      omega (arith, counted .pin-count .ensures, some),
       omega (arith, pinned .add-pin .ensures .1, opened .add-piece2 .ensures .1, named .add-piece .ensures .1),
       refl,
       one,
@@ -97,7 +116,7 @@ loop-holds c =
 
 -- how many pins there are, and that a pin more has room
 counted : tie.At-loop Inv-loop μ-loop → tie.After-pin-count Inv-loop μ-loop
-counted c = c .before .before .before .before .before .before .before .before .before .before .before .before .before
+counted c = c .before .before .before .before .before .before .before .before .before .before .before .before .before .before
 
 four : (c : tie.At-loop Inv-loop μ-loop) → counted c .pin-count .result ≤ 4
 unfolding counted
@@ -150,9 +169,9 @@ add-piece-requires-4 c κs =
     let at-loop = c .before .before in
     (lit< tt, omega (arith, at-loop .loop .inv, four at-loop, room (at-loop .before)))
 
-returns : tie.Need-returns Inv-loop μ-loop
+returns-2 : tie.Need-returns-2 Inv-loop μ-loop
 unfolding counted
-returns c =
+returns-2 c =
     let closed = c .before .before in
     let left = closed .before .before in
     let at-loop = left .before in
@@ -171,5 +190,5 @@ pub put-gate-spec : {M : Type 1} → statement M
 put-gate-spec =
     tie.close
     (tie.spec Inv-loop μ-loop record-place-requires (λ c κs. search needs) pin-count-requires add-piece-requires add-add-piece add-piece-requires-2
-    add-pin-requires loop-holds add-piece-requires-3 add-pin-requires-2 (λ c. search needs) (λ c. search needs) loop-again add-piece-requires-4
-    (λ c. search needs) returns)
+    (λ c. search needs) returns add-pin-requires loop-holds add-piece-requires-3 add-pin-requires-2 (λ c. search needs) (λ c. search needs) loop-again
+    add-piece-requires-4 (λ c. search needs) returns-2)

@@ -10,6 +10,7 @@ use Rattle.five.specs.Inner.{readAt}
 use Rattle.five.proofs.Laws.Table.{getD-below}
 use Rattle.five.proofs.Laws.Gate.{ways, turned, gate-goes, turned-opposite, turned-same}
 use Rattle.five.proofs.Laws.Below.{gate-below}
+use Rattle.five.proofs.Laws.Line.{few-named}
 use Rattle.five.proofs.line.gate_value.Statement.{statement}
 use Rattle.five.proofs.line.gate_value.Tie as tie
 
@@ -28,8 +29,8 @@ goes c =
     let start = c .before .before .before .before .before .before .before in
     let a = start .args in
     let way = rw (c .before .before .before .byte .ensures .0) at (c .before .pick .ensures .0) in
-    gate-goes (byteAt (a .img .now) (a .at)) _ _ (readAt (a .condition) (a .img .now) (a .at) (a .i) (a .below .now)) (start .pre .2) (start .pre .1 .kind) way
-    (c .section-value .ensures .0)
+    gate-goes (byteAt (a .img .now) (a .at)) _ _ (readAt (a .condition) (a .img .now) (a .at) (a .i) (a .below .now)) (start .pre .2) (start .pre .1 .kind)
+    (few-named (a .condition) (a .img .now) (a .at) (a .i) (a .below .now) (start .pre .1)) way (c .section-value .ensures .0)
 
 returns : tie.Need-returns
 returns c =
