@@ -1,4 +1,4 @@
--- Computed examples: the request's own statements, and board T of document 01 as a drawing and as an image.
+-- Computed examples: the requests' own statements, and board T of document 01 as a drawing and as an image.
 use mathlib.Core.Path.{_≡_, refl}
 use mathlib.Core.List.{List, [], _∷_}
 use Prim.Native.Nat.{ℕ}
@@ -27,6 +27,10 @@ an-output = refl
 a-nor : gateText 4 (gate 6 (1 ∷ 2 ∷ [])) ≡ text "n4 = NOR(n1, n2)\n"
 unfolding gate gateText each decimal places first
 a-nor = refl
+
+a-tie : (gateText 4 (gate 9 []) ≡ text "n4 = TIE0()\n") × (gateText 5 (gate 10 []) ≡ text "n5 = TIE1()\n")
+unfolding gate gateText each decimal places first
+a-tie = (refl, refl)
 
 drawing-of-T : textOf T ≡ text "INPUT(n0)\nOUTPUT(n2)\nn1 = NOT(n0)\nn2 = OR(n0, n1)\n"
 unfolding gate T inputText outputText gateText linesText textOf each decimal places first
