@@ -31,7 +31,7 @@ impl Fault {
         self.line == line as u64 && self.pin == Some(pin as u64)
     }
 
-    // Gives whether the fault is of a pin that its line's gate does not have; every pin of an input is such.
+    // Gives whether the fault is of a pin that its line's gate does not have; every pin of an input or a tie is such.
     pub fn is_absent(&self, board: &Board) -> bool {
         match self.pin {
             None => false,
@@ -66,6 +66,8 @@ pub fn gate(kind: u8, count: u8, ones: u8) -> u8 {
         3 | 4 => ones == count,
         5 | 6 => ones > 0,
         7 | 8 => ones % 2 == 1,
+        9 => false,
+        10 => true,
         _ => panic!("not a gate's kind: {kind}"),
     };
     let opposite = matches!(kind, 2 | 4 | 6 | 8);
@@ -120,6 +122,7 @@ fn gate_block(kind: u8, count: u8, ones: &Block, own: &mut Block) {
     match kind {
         3 | 4 => (0..SIDE).for_each(|k| own[k] = u8::from(ones[k] == count)),
         5 | 6 => (0..SIDE).for_each(|k| own[k] = u8::from(ones[k] > 0)),
+        9 | 10 => *own = [kind - 9; SIDE],
         _ => (0..SIDE).for_each(|k| own[k] = ones[k] % 2),
     }
     if matches!(kind, 2 | 4 | 6 | 8) {

@@ -1,12 +1,15 @@
 //! Drawings as text: the form as the statements that may come next, a reader that tries each of them, and a writer.
 
 use crate::image::{self, Board, Record, Refusal, MARK, RECORD, TRAILER};
+use std::ops::RangeInclusive;
 
 /// The gate words; the first is kind 1.
-const WORDS: [&str; 8] = ["BUFF", "NOT", "AND", "NAND", "OR", "NOR", "XOR", "XNOR"];
+const WORDS: [&str; 10] = ["BUFF", "NOT", "AND", "NAND", "OR", "NOR", "XOR", "XNOR", "TIE0", "TIE1"];
+/// The first kind whose word takes no pin.
+const FIRST_TIE: u8 = 9;
 /// The largest number of an output or a pin.
 const LARGEST: u32 = 65_535;
-/// The most pins after a gate word.
+/// The most pins behind a gate word.
 const MOST_PINS: usize = 4;
 
 /// A piece of a statement: these letters and signs, this number, or any number up to the largest.
@@ -73,11 +76,20 @@ fn shared_with_statement(pieces: &[Piece], text: &[u8]) -> (usize, Option<Vec<u1
     (length, Some(numbers))
 }
 
+// Gives how many pins may stand in the brackets behind a kind's word.
+fn pins_of_word(kind: u8) -> RangeInclusive<usize> {
+    if kind < FIRST_TIE {
+        1..=MOST_PINS
+    } else {
+        0..=0
+    }
+}
+
 // Gives the pieces of a gate's statement: its line, its word and so many pins.
 fn gate_pieces(line: usize, word: &'static str, pins: usize) -> Vec<Piece> {
-    let mut pieces = vec![Piece::Text("n"), Piece::This(line), Piece::Text(" = "), Piece::Text(word)];
+    let mut pieces = vec![Piece::Text("n"), Piece::This(line), Piece::Text(" = "), Piece::Text(word), Piece::Text("(")];
     for pin in 0..pins {
-        pieces.extend([Piece::Text(if pin == 0 { "(n" } else { ", n" }), Piece::Any]);
+        pieces.extend([Piece::Text(if pin == 0 { "n" } else { ", n" }), Piece::Any]);
     }
     pieces.push(Piece::Text(")\n"));
     pieces
@@ -94,7 +106,7 @@ impl Drawing {
             sorts.push(Sort::Output);
         }
         for kind in 1..=WORDS.len() as u8 {
-            sorts.extend((1..=MOST_PINS).map(|pins| Sort::Gate { kind, pins }));
+            sorts.extend(pins_of_word(kind).map(|pins| Sort::Gate { kind, pins }));
         }
         sorts
     }

@@ -14,6 +14,8 @@ pub const MOST_LINES: usize = 4_096;
 pub const MOST_OUTPUTS: usize = 64;
 /// The most inputs a board has.
 pub const MOST_INPUTS: usize = 32;
+/// The highest kind.
+pub const MOST_KIND: u8 = 10;
 /// The longest note in bytes.
 pub const MOST_NOTE: usize = 256;
 /// The length of the longest good image in bytes.
@@ -129,10 +131,10 @@ fn trailer(image: &[u8]) -> Result<Trailer, Refusal> {
     Ok(Trailer { lines, outputs, distance })
 }
 
-// Gives whether a pin count is allowed for a kind (0 to 8).
+// Gives whether a pin count is allowed for a kind (0 to 10).
 fn count_allowed(kind: u8, count: u8) -> bool {
     match kind {
-        0 => count == 0,
+        0 | 9 | 10 => count == 0,
         1 | 2 => count == 1,
         _ => (2..=4).contains(&count),
     }
@@ -140,7 +142,10 @@ fn count_allowed(kind: u8, count: u8) -> bool {
 
 // Gives the first bad field of a record at a line, where `inputs` inputs and perhaps a gate stand before it.
 pub fn bad_field(record: &Record, line: usize, inputs: usize, gate_before: bool) -> Option<usize> {
-    if record.kind > 8 {
+    if record.kind > MOST_KIND {
+        return Some(0);
+    }
+    if line == 0 && !record.is_input() {
         return Some(0);
     }
     if record.is_input() && (gate_before || inputs >= MOST_INPUTS) {

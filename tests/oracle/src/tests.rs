@@ -6,6 +6,7 @@ mod exhaustion;
 mod pins;
 mod refusals;
 mod sheet;
+mod ties;
 
 use crate::image::RECORD;
 
@@ -18,6 +19,8 @@ pub const OR: u8 = 5;
 pub const NOR: u8 = 6;
 pub const XOR: u8 = 7;
 pub const XNOR: u8 = 8;
+pub const TIE0: u8 = 9;
+pub const TIE1: u8 = 10;
 
 // Gives the 10 bytes of a record of this kind with these pins.
 pub fn record(kind: u8, pins: &[u16]) -> [u8; RECORD] {

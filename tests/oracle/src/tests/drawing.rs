@@ -80,7 +80,6 @@ fn departures() {
     departs("OUTPUT(n0)\nINPUT(n0)\n", 11);
     departs("INPUT(n0)\nn1 = NOT(n0)\nOUTPUT(n1)\n", 23);
     departs("INPUT(n0)\nn1 = NOT(n0)\nINPUT(n2)\n", 23);
-    departs("INPUT(n0)\nn1 = TIE0()\n", 15);
     departs("INPUT(n0)\nn1 = NOT(n-1)\n", 20);
     departs("INPUT(n0)\nn1 = NOT(n+1)\n", 20);
     assert_eq!(said(b"INPUT(n\xC3\xA9)\n"), "refused 13 at 7");
@@ -119,8 +118,8 @@ fn boards_named() {
     assert_eq!(said((inputs(65_537) + &outputs(1)).as_bytes()), "refused 2");
     assert_eq!(said((inputs(1) + &outputs(1).repeat(65_537)).as_bytes()), "refused 2");
     assert_eq!(said((inputs(33) + "OUTPUT(n99)\n").as_bytes()), "refused 4 at 32.0");
-    assert_eq!(said(b"OUTPUT(n0)\nn0 = NOT(n0)\n"), "refused 4 at 0.2");
-    assert_eq!(said(b"OUTPUT(n0)\nn0 = AND(n0)\n"), "refused 4 at 0.1");
+    assert_eq!(said(b"OUTPUT(n0)\nn0 = NOT(n0)\n"), "refused 4 at 0.0");
+    assert_eq!(said(b"OUTPUT(n0)\nn0 = AND(n0)\n"), "refused 4 at 0.0");
     assert_eq!(said(b"INPUT(n0)\nOUTPUT(n9)\nn1 = AND(n0, n65535)\n"), "refused 4 at 1.3");
     assert_eq!(said(b"INPUT(n0)\nOUTPUT(n9)\nn1 = AND(n0, n0, n0, n1)\n"), "refused 4 at 1.5");
     assert_eq!(said(b"INPUT(n0)\nOUTPUT(n9)\nn1 = AND(n0, n0)\n"), "refused 5 at 0");
@@ -195,6 +194,9 @@ fn anew(statement: &str, line: usize) -> Option<(u8, String)> {
         let &output = numbers.first().filter(|&&output| output <= 65_535)?;
         return Some((1, format!("OUTPUT(n{output})")));
     }
+    if let Some(tie) = ["TIE0", "TIE1"].into_iter().find(|tie| statement.contains(tie)) {
+        return Some((2, format!("n{line} = {tie}()")));
+    }
     let pins: Vec<String> = numbers.iter().skip(1).filter(|&&pin| pin <= 65_535).map(|pin| format!("n{pin}")).collect();
     (1..=4).contains(&pins.len()).then_some((2, format!("n{line} = {}({})", word?, pins.join(", "))))
 }
@@ -222,6 +224,7 @@ fn ends() -> BTreeSet<String> {
         statements.extend([format!("INPUT(n{line})\n"), format!("n{line} = OR(n0, n0)\n")]);
         let words = ["BUFF", "NOT", "AND", "NAND", "OR", "NOR", "XOR", "XNOR"];
         statements.extend(words.map(|word| format!("n{line} = {word}(n0)\n")));
+        statements.extend(["TIE0", "TIE1"].map(|tie| format!("n{line} = {tie}()\n")));
     }
     statements.iter().flat_map(|text| (0..=text.len()).map(|start| text[start..].to_string())).collect()
 }
@@ -233,7 +236,7 @@ fn changed(text: &str) -> Vec<String> {
         let (before, rest) = text.split_at(at);
         let behind = if rest.is_empty() { "" } else { &rest[1..] };
         texts.push(format!("{before}{behind}"));
-        for other in "INTOANXRn0156(), =\n\r".chars() {
+        for other in "INTOANXREn0156(), =\n\r".chars() {
             texts.extend([format!("{before}{other}{rest}"), format!("{before}{other}{behind}")]);
         }
     }
@@ -247,7 +250,8 @@ fn lengths_by_trial() {
     let begins = |text: &str| ends.iter().any(|end| of_the_form(&format!("{text}{end}")));
     let largest = "OUTPUT(n65535)\nOUTPUT(n10)\nn0 = XNOR(n65535, n0, n6553, n9)\n";
     let few = "INPUT(n0)\nn1 = BUFF(n10)\nn2 = NAND(n1, n20)\n";
-    for text in [T, largest, few].into_iter().flat_map(changed) {
+    let tied = "INPUT(n0)\nn1 = TIE0()\nn2 = NOT(n0)\nn3 = TIE1()\n";
+    for text in [T, largest, few, tied].into_iter().flat_map(changed) {
         match said(text.as_bytes()).strip_prefix("refused 13 at ") {
             None => assert!(of_the_form(&text), "{text:?}"),
             Some(length) => {

@@ -4,6 +4,7 @@ use super::*;
 use crate::board::{self, Fault, D, D_BAR, X};
 use crate::calls::{self, Entry};
 use crate::image::{decode, Board, Record};
+use std::ops::RangeInclusive;
 
 /// A small source of numbers that look random.
 struct Numbers(u64);
@@ -19,8 +20,9 @@ impl Numbers {
 
     // Gives a good gate record for a line.
     fn gate(&mut self, line: u64) -> [u8; RECORD] {
-        let kind = 1 + self.below(8) as u8;
-        let count = if kind <= 2 { 1 } else { 2 + self.below(3) };
+        let kind = 1 + self.below(10) as u8;
+        let count = counts(kind);
+        let count = u64::from(*count.start()) + self.below(count.count() as u64);
         let pins: Vec<u16> = (0..count).map(|_| self.below(line) as u16).collect();
         record(kind, &pins)
     }
@@ -38,7 +40,7 @@ impl Numbers {
         image(self.below(20) as usize, &records, &outputs)
     }
 
-    // Gives a fault of either sort that the board can have; an input has none of a pin.
+    // Gives a fault of either sort that the board can have; an input and a tie have none of a pin.
     fn fault(&mut self, board: &Board) -> Fault {
         let line = self.below(board.lines() as u64);
         let stuck = self.below(2) as u8;
@@ -47,6 +49,15 @@ impl Numbers {
             return Fault::on_line(line, stuck);
         }
         Fault::on_pin(line, self.below(pins), stuck)
+    }
+}
+
+// Gives the pin counts that a gate's kind may have.
+fn counts(kind: u8) -> RangeInclusive<u32> {
+    match kind {
+        1 | 2 => 1..=1,
+        9 | 10 => 0..=0,
+        _ => 2..=4,
     }
 }
 
@@ -63,7 +74,9 @@ fn table(kind: u8, pins: &[u8]) -> u8 {
         5 => some,
         6 => !some,
         7 => odd,
-        _ => !odd,
+        8 => !odd,
+        9 => false,
+        _ => true,
     };
     u8::from(value)
 }
@@ -77,8 +90,8 @@ fn lists(count: u32, limit: u8) -> Vec<Vec<u8>> {
 // Every kind and pin count gives the table's value on all pins.
 #[test]
 fn gates() {
-    for kind in 1..=8 {
-        for count in if kind <= 2 { 1..=1 } else { 2..=4 } {
+    for kind in 1..=10 {
+        for count in counts(kind) {
             for pins in lists(count, 2) {
                 let ones = pins.iter().sum();
                 assert_eq!(board::gate(kind, count as u8, ones), table(kind, &pins), "{kind} {pins:?}");
@@ -103,8 +116,8 @@ fn constant(kind: u8, pins: &[Option<u8>]) -> Option<u8> {
 // A gate is settled among the five exactly when its good halves and its faulty halves each settle it.
 #[test]
 fn gates_five() {
-    for kind in 1..=8 {
-        for count in if kind <= 2 { 1..=1 } else { 2..=4 } {
+    for kind in 1..=10 {
+        for count in counts(kind) {
             for pins in lists(count, 5) {
                 let good: Vec<_> =
                     pins.iter().map(|&pin| [Some(0), Some(1), None, Some(1), Some(0)][pin as usize]).collect();
