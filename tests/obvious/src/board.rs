@@ -44,7 +44,7 @@ impl Line {
     // Gives whether the line may stand at a place: its kind known, its pin count allowed, its pins below it.
     fn fits(&self, place: usize) -> bool {
         let allowed = match self.kind {
-            0 => self.count == 0,
+            0 | 9 | 10 => self.count == 0,
             1 | 2 => self.count == 1,
             3..=8 => (2..=4).contains(&self.count),
             _ => false,
@@ -57,6 +57,7 @@ impl Line {
         let value = match self.kind {
             3 | 4 => read.fold(1, |all, pin| all & pin),
             5 | 6 => read.fold(0, |some, pin| some | pin),
+            9 | 10 => 0,
             _ => read.fold(0, |odd, pin| odd ^ pin),
         };
         value ^ u8::from(self.kind % 2 == 0)

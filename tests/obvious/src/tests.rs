@@ -102,6 +102,25 @@ fn every_kind_has_its_value() {
 }
 
 #[test]
+fn a_tie_has_its_value_and_no_pins() {
+    let board = Board::of(&image(1, &[(9, &[]), (10, &[]), (8, &[0, 1, 2])])).unwrap();
+    let mut row = [9; 4];
+    for pattern in 0..2 {
+        board.run(pattern, None, &mut row);
+        assert_eq!(row, [pattern as u8, 0, 1, pattern as u8]);
+    }
+    let on = |line, pin, stuck| board.find(Fault { line, pin, stuck }, 2).0;
+    let none = crate::board::NONE;
+    assert_eq!([on(1, None, 0), on(1, None, 1), on(2, None, 0), on(2, None, 1)], [none, 0, 0, none]);
+    assert_eq!([on(3, Some(1), 0), on(3, Some(1), 1)], [none, 0]);
+    let pins = board.pin_faults();
+    assert!(pins[..24].iter().all(Option::is_none) && pins[24..30].iter().all(Option::is_some));
+    for (kind, pins) in [(9, &[0][..]), (10, &[0, 0]), (11, &[]), (255, &[])] {
+        assert!(Board::of(&image(1, &[(kind, pins)])).is_none());
+    }
+}
+
+#[test]
 fn part_of_a_book_says_how_many_patterns_were_tried() {
     let said = answers(Some(1), T, &["book", "entries", "pin book"]);
     assert!(said[0].starts_with("tried 6 patterns in "), "{}", said[0]);
