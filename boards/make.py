@@ -1,7 +1,7 @@
 #!/usr/bin/env python3
-"""Makes the sample images and their drawings beside this file: boards S, T and H of document 01, and an auction hall's.
+"""Makes the sample images and their drawings beside this file: boards S, T and H of document 01, one with lines tied to a rail, and an auction hall's.
 
-    boards/make.py          writes boards/S.img, T.img, H.img and hall.img, and boards/S.txt, T.txt, H.txt and hall.txt
+    boards/make.py          writes boards/S.img, T.img, H.img, rails.img and hall.img, and boards/S.txt, T.txt, H.txt, rails.txt and hall.txt
     boards/make.py --check  says whether those files, and the images on the bench sheet, are what this script makes
 """
 import re
@@ -12,11 +12,11 @@ from pathlib import Path
 HERE = Path(__file__).resolve().parent
 sys.path.insert(0, str(HERE))
 from hall import hall  # noqa: E402
-from parts import AND, BUFFER, INPUT, NAND, NOR, NOT, OR, XNOR, XOR  # noqa: E402, F401
+from parts import AND, BUFFER, INPUT, NAND, NOR, NOT, OR, TIE0, TIE1, XNOR, XOR  # noqa: E402, F401
 
 MARK = bytes.fromhex("42524431")
 # a gate's word in a drawing, by its kind
-WORDS = ["", "BUFF", "NOT", "AND", "NAND", "OR", "NOR", "XOR", "XNOR"]
+WORDS = ["", "BUFF", "NOT", "AND", "NAND", "OR", "NOR", "XOR", "XNOR", "TIE0", "TIE1"]
 
 
 def record(kind, *pins):
@@ -56,6 +56,12 @@ S = image(
 )
 T = image([record(INPUT), record(NOT, 0), record(OR, 0, 1)], [2])
 H = image([record(INPUT), record(INPUT), record(NOT, 0), record(BUFFER, 1)], [2, 3])
+# two bidders' buttons, 0 and 1, and a tie-breaker of chips with a leg to spare: line 5 says that the first wins, 6 that the second does, who has to press
+# alone, and 7 that one of them does. The spare legs of the ands are tied high, by line 3, and that of the or low, by line 2
+RAILS = image(
+    [record(INPUT)] * 2 + [record(TIE0), record(TIE1), record(NOT, 0), record(AND, 0, 3), record(AND, 1, 4, 3), record(OR, 5, 6, 2)],
+    [5, 6, 7],
+)
 HALL_RECORDS, HALL_OUTPUTS = hall()
 HALL = image([record(kind, *pins) for kind, pins in HALL_RECORDS], HALL_OUTPUTS)
 
@@ -70,7 +76,7 @@ def on_the_sheet(name):
 
 
 ON_THE_SHEET = {"S": S, "T": T, "H": H}
-SAMPLES = ON_THE_SHEET | {"hall": HALL}
+SAMPLES = ON_THE_SHEET | {"rails": RAILS, "hall": HALL}
 FILES = {HERE / f"{name}.img": data for name, data in SAMPLES.items()} | {HERE / f"{name}.txt": drawing(data) for name, data in SAMPLES.items()}
 
 if __name__ == "__main__":

@@ -1,5 +1,5 @@
 """A board in the making, and the parts of which boards are built."""
-INPUT, BUFFER, NOT, AND, NAND, OR, NOR, XOR, XNOR = range(9)
+INPUT, BUFFER, NOT, AND, NAND, OR, NOR, XOR, XNOR, TIE0, TIE1 = range(11)
 
 
 class Drawing:
