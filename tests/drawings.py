@@ -5,10 +5,18 @@ import re
 import shapes
 from shapes import make
 
-WORDS = ("BUFF", "NOT", "AND", "NAND", "OR", "NOR", "XOR", "XNOR")
+WORDS = ("BUFF", "NOT", "AND", "NAND", "OR", "NOR", "XOR", "XNOR", "TIE0", "TIE1")
 # what an input's number, that of an output or a pin, a gate word and its brackets look like in a drawing
 OWN, NUMBER = rb"(?<=INPUT\(n)\d+", rb"((?<=TPUT\(n)|(?<=NOT\(n)|(?<=[FDR]\(n)|(?<=, n))\d+"
-WORD, BRACKETS = rb"(?<= = )[A-Z]+", rb"(?<=[A-Z])\(.*\)"
+WORD, BRACKETS, GATE = rb"(?<= = )[A-Z]+[01]?", rb"(?<=[A-Z01])\(.*\)", rb"(?<= = ).*\n"
+# what stands behind = in a tie's statement, or nearly
+NEAR_TIES = (
+    b"TIE0()\n", b"TIE1()\n", b"T", b"TI", b"TIE", b"TIE0", b"TIE1", b"TIE0(", b"TIE1(", b"TIE0()", b"TIE1()", b"TIE0(n", b"TIE1(n", b"TIE0(n0)\n",
+    b"TIE1(n0)\n", b"TIE0(n0, n0)\n", b"TIE1(0)\n", b"TIE0( )\n", b"TIE1(,)\n", b"TIE0 ()\n", b"TIE1() \n", b"TIE0()\r\n", b"TIE1())\n", b"TIE0)\n",
+    b"TIE0\n", b"TIE()\n", b"TIE2()\n", b"TIE9()\n", b"TIE00()\n", b"TIE01()\n", b"TIE10()\n", b"TIE11()\n", b"TIE 0()\n", b"TIEO()\n", b"TIED()\n",
+    b"TIE_0()\n", b"TI0()\n", b"TIX()\n", b"TIR()\n", b"TO()\n", b"T0()\n", b"TX()\n", b"tie0()\n", b"Tie1()\n", b"tIE0()\n", b"NTIE0()\n", b"0()\n", b"()\n",
+    b"TIE0[]\n", b"TIE1{}\n", b"TIE0()TIE1()\n", b"TIE0()\n\n", b"AND()\n", b"NOT()\n", b"XNOR()\n", b"BUFF()\n", b"OR(", b"INPUT()\n", b"TIE0(n0", b"TIE1(n0,",
+)
 # what a place of a drawing looks like, and what it must not be, or may only just be
 SPOILS = (
     *((rb" = ", other) for other in (b"= ", b" =", b"=", b"  = ", b" =  ", b" == ", b"\t=\t", b" ", b" := ")),
@@ -23,15 +31,17 @@ SPOILS = (
     *((NUMBER, other) for other in (b"", b"0", b"65535", b"65535", b"65536", b"65536", b"65540", b"66000", b"70000", b"99999", b"100000",
                                     b"655350", b"131072", b"4294967296", b"18446744073709551616", b"065535", b"00", b"01", b"6.5")),
     *((WORD, other) for other in (b"", b"BUF", b"BUFFER", b"NO", b"NOTE", b"AN", b"ANDY", b"NA", b"NANDNAND", b"O", b"ORR", b"NORR", b"X", b"XN",
-                                  b"XAND", b"EXOR", b"TIE0", b"TIE1", b"and", b"Not", b"buff", b"INPUT", b"OUTPUT", b"n0", b"AND NOT")),
+                                  b"XAND", b"EXOR", b"TIE0", b"TIE1", b"TIE", b"TIE2", b"TIED", b"TI", b"T", b"tie0", b"TIE00", b"TIE10", b"and", b"Not", b"buff", b"INPUT", b"OUTPUT", b"n0", b"AND NOT")),
     *((BRACKETS, other) for other in (b"()", b"", b"(n0)", b"(n0, n0)", b"(n0, n0, n0, n0, n0)", b"(n0, n0, n0, n0, n0, n0)", b"(n0, n0, n0, n0,",
                                       b"(n0, n1, n0, n1)", b"(n0, n0, n0, n65535)", b"(n0, n0, n0, n65536)", b"(n0,, n0)", b"( )", b"(n0, )")),
+    *((GATE, other) for other in NEAR_TIES),
     *((rb"INPUT", other) for other in (b"input", b"Input", b"INPUTS", b"IN", b"INOUT", b"OUTPUT", b" INPUT", b"I", b"\xefINPUT")),
     *((rb"OUTPUT", other) for other in (b"output", b"OUT", b"OUTPUTS", b"INPUT", b"OUTPUT ", b"O", b"OUTRUN", b"")),
 )
-SIGNS = b"INPUTOBFADXRn0123456789(), =\n\r\t\0\xff"
+SIGNS = b"INPUTOBFADXREn0123456789(), =\n\r\t\0\xff"
 TOKENS = (b"INPUT(n", b"OUTPUT(n", b"n", b"0", b"1", b"9", b"65", b"535", b")\n", b")", b"(", b", ", b" = ", b" ", b"\n", b"AND(n0", b"NOT(n0)\n",
-          b"X", b"NOR(n1, n0)\n", b"n0 = ", b"n1 = ", b"OUTPUT(n0)\n", b"INPUT(n0)\n", b"INPUT(n1)\n", b"N", b"O", b"B")
+          b"X", b"NOR(n1, n0)\n", b"n0 = ", b"n1 = ", b"OUTPUT(n0)\n", b"INPUT(n0)\n", b"INPUT(n1)\n", b"N", b"O", b"B",
+          b"TIE0()\n", b"TIE1()\n", b"TIE", b"TIE1(", b"T", b"n1 = TIE0()\n", b"()\n")
 
 
 def gate(line, kind, pins):
@@ -58,8 +68,9 @@ def any_board(rng):
 
 
 def tiny(rng):
-    """The drawing of a board of two to five lines; a number in it may be as large as one can be."""
-    board = shapes.mixed(rng, rng.randint(1, 2), rng.randint(1, 3), 2)
+    """The drawing of a board of two to eight lines and up to two outputs; a number in it may be as large as one can be."""
+    board = rng.choice((shapes.mixed, shapes.mixed, shapes.tied))(rng, rng.randint(1, 2), rng.randint(1, 3))
+    board.outputs = board.outputs[:2]
     return spoilt(rng, drawing(board), NUMBER, b"65535") if rng.random() < 0.3 else drawing(board)
 
 
@@ -115,7 +126,7 @@ def outputs_miscounted(rng, board):
 def too_many_lines(rng, board):
     """Refusal 2: 4,097 lines and more, of gates and of inputs."""
     few, more = rng.randint(1, 3), shapes.MOST_LINES + rng.choice((1, 1, 256))
-    gates = [(make.NOT, (0,))] * (shapes.MOST_LINES + 1 - few)
+    gates = [rng.choice(((make.NOT, (0,)), (make.TIE1, ())))] * (shapes.MOST_LINES + 1 - few)
     return rng.choice((shapes.Board([shapes.INPUT] * few + gates, board.outputs), shapes.Board([shapes.INPUT] * more, board.outputs)))
 
 
@@ -126,10 +137,17 @@ def too_many_inputs(rng, _board):
 
 
 def pins_miscounted(rng, board):
-    """Refusal 4, field 1: too many pins or too few for the word, at a gate's line or at line 0."""
+    """Refusal 4, field 1: too many pins or too few for the word, at a gate's line; at line 0 it is field 0."""
     line, kind = rng.choice((board.inputs, board.lines - 1)), rng.randrange(1, 9)
     pins = tuple(rng.randrange(max(line, 1)) for _ in range(rng.randrange(2, 5) if kind < make.AND else 1))
     return shapes.Board(board.records, board.outputs).altered(line, (kind, pins)) if rng.random() < 0.8 else shapes.Board([(kind, pins)], [0])
+
+
+def gate_at_0(rng, board):
+    """Refusal 4, field 0: a gate or a tie at line 0, its own pins good or bad, and any gates behind it."""
+    kind = rng.choice((*shapes.PINNED, *shapes.TIES * 3))
+    pins = () if kind in shapes.TIES else tuple(rng.choice((0, 1, 65535)) for _ in range(rng.randint(1, 4)))
+    return shapes.Board([(kind, pins), *board.records[board.inputs:]], board.outputs)
 
 
 def pin_too_high(rng, board):
@@ -153,8 +171,8 @@ def several_wrong(rng, board):
     return rng.choice((pins_miscounted, pin_too_high))(rng, pin_too_high(rng, worse))
 
 
-RULES = (no_lines, outputs_miscounted, too_many_lines, too_many_inputs, pins_miscounted, pin_too_high, pin_too_high, outputs_wrong, several_wrong)
-FEW_RULES = (no_lines, outputs_miscounted, pins_miscounted, pin_too_high, outputs_wrong)
+RULES = (no_lines, outputs_miscounted, too_many_lines, too_many_inputs, gate_at_0, pins_miscounted, pin_too_high, pin_too_high, outputs_wrong, several_wrong)
+FEW_RULES = (no_lines, outputs_miscounted, gate_at_0, pins_miscounted, pin_too_high, outputs_wrong)
 
 
 # files of drawings

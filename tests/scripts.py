@@ -143,15 +143,15 @@ class Script:
         return self.rng.randrange(min(self.board.inputs, self.board.lines - 1), self.board.lines)
 
     def pins(self, line):
-        """How many pins a line has: none for an input or a line that is not there."""
+        """How many pins a line has: none for an input, a tie or a line that is not there."""
         return len(self.board.records[line][1]) if line < self.board.lines else 0
 
     def pin(self, line):
-        """A used pin of a line; nothing for an input, which has none."""
+        """A used pin of a line; nothing for an input or a tie, which has none."""
         return self.rng.randrange(self.pins(line)) if self.pins(line) else None
 
     def pin_fault(self):
-        """A fault of a used pin as line, stuck value and pin; of a line where there is no gate."""
+        """A fault of a used pin as line, stuck value and pin; of a line where there is no gate or it is a tie."""
         line = self.gate()
         return line, self.stuck(), self.pin(line)
 
@@ -386,7 +386,7 @@ def bigger_drawings(s):
 
 
 def early_patterns(s):
-    """Boards of over 24 inputs where an early pattern shows every fault that is asked for or touched; and inputs alone, which have no pins."""
+    """Boards of over 24 inputs where an early pattern shows every fault that is asked for or touched; and inputs alone or with ties, which have no pins."""
     s.load(shapes.early(s.rng))
     for _ in range(3):
         line, stuck = s.rng.randrange(s.board.inputs, s.board.lines), s.stuck()
@@ -400,7 +400,8 @@ def early_patterns(s):
         s.board.records[line] = record
         bad = s.rng.choice(((s.bad_line(), stuck), (line, s.bad_stuck()), (line, stuck, s.bad_pin(line))))
         s.say("find", s.fault(*bad))
-        s.say("alter", line, s.rng.choice((make.record(make.INPUT), make.record(make.NOT, line), make.record(make.AND, 0), make.record(9, 0))))
+        s.say("alter", line, s.rng.choice((make.record(make.INPUT), make.record(make.NOT, line), make.record(make.AND, 0), make.record(make.TIE0, 0),
+                                           make.record(11))))
     for pattern in (s.pattern(), s.bad_pattern(), s.rng.choice((2**63, TOP))):
         s.judge(pattern, *s.any_fault())
         s.rows(pattern, *s.any_fault())
@@ -409,7 +410,8 @@ def early_patterns(s):
     s.say("lend book", 2 * s.board.lines - 1)
     s.say("lend pins", 8 * s.board.lines + 1)
     s.look("book", "pin book", "entries", "pin entries")
-    s.load(shapes.Board([shapes.INPUT] * s.board.inputs, [s.board.inputs - 1]))
+    ties = [(s.rng.choice(shapes.TIES), ()) for _ in range(s.rng.choice((0, 0, 1, 3)))]
+    s.load(shapes.Board([shapes.INPUT] * s.board.inputs + ties, [s.board.inputs - 1]))
     s.look("pin book", "pin entries")
 
 
@@ -417,7 +419,7 @@ def early_record(s, line):
     """Another record for a gate of such a board: an input that it no longer reads is read by another gate."""
     others = {pin for other, (_, pins) in enumerate(s.board.records) if other != line for pin in pins}
     while True:
-        kind = s.rng.randrange(1, 9)
+        kind = s.rng.choice(shapes.PINNED)
         pins = tuple(s.rng.sample(range(7), shapes.pin_count(s.rng, kind)))
         if others.union(pins).issuperset(s.board.records[line][1]):
             return kind, pins
@@ -557,7 +559,7 @@ def good_alteration(s, line):
     record = shapes.good_record(s.rng, line)
     if s.alter(line, shapes.packed(record)):
         s.board.records[line] = record
-        fault = line, s.stuck(), s.rng.randrange(max(before, s.pins(line)))
+        fault = line, s.stuck(), s.rng.randrange(max(before, s.pins(line), 1))
         s.rng.choice((lambda: s.find(*fault), lambda: s.judge(s.pattern(), *fault), lambda: s.rows(s.pattern(), *fault),
                       lambda: s.five(*s.partial(), *fault)))()
 
@@ -672,7 +674,8 @@ def exclusive_ors(s):
 def gate_tables(s):
     """Every gate on every choice of pins from five lines that hold 0, 1, x, D and D-bar: the whole five-value table, on boards of 4,096 lines."""
     pins = [chosen for count in (2, 3, 4) for chosen in itertools.product(range(5), repeat=count)]
-    gates = [(kind, (pin,)) for kind in (1, 2) for pin in range(5)] + [(kind, chosen) for kind in range(3, 9) for chosen in pins]
+    gates = [(kind, ()) for kind in shapes.TIES] + [(kind, (pin,)) for kind in (1, 2) for pin in range(5)]
+    gates += [(kind, chosen) for kind in range(3, 9) for chosen in pins]
     s.rng.shuffle(gates)
     most = MOST_LINES - 5
     gates += s.rng.choices(gates, k=-len(gates) % most)
@@ -684,6 +687,119 @@ def gate_tables(s):
         for _ in range(4):
             s.five(0b1011, 0b1010, *s.pin_fault())
             s.rows(s.pattern(), *s.pin_fault())
+
+
+# lines tied to a rail
+
+def every_call_of(s, *faults):
+    """Each call that takes a fault, with each of these."""
+    for fault in faults:
+        s.find(*fault)
+        s.judge(s.pattern(), *fault)
+        s.rows(s.pattern(), *fault)
+        s.five(*s.rng.choice(((0, 0), s.partial())), *fault)
+
+
+def ties(s):
+    """A board with ties: both books, its ties at 0 and at 1 and by pins that they do not have, gates with a tied leg by line and by pin, and each in x."""
+    s.load(s.rng.choice((shapes.tied, shapes.tied, shapes.tied, shapes.ties_only, shapes.rails))(s.rng, s.rng.randint(1, 4), s.rng.randint(1, 7)))
+    s.book()
+    s.pin_book()
+    board = s.board
+    rails = [line for line, record in enumerate(board.records) if shapes.is_tie(record)]
+    for line in s.rng.sample(rails, min(len(rails), 2)):
+        every_call_of(s, (line, 0), (line, 1), (line, s.stuck(), s.bad_pin(line)))
+        s.five(0, 0, line, s.stuck())
+        s.refresh(line, s.pattern())
+    legs = [(line, pin) for line, (_, pins) in enumerate(board.records) for pin, below in enumerate(pins) if below in rails]
+    for line, pin in s.rng.sample(legs, min(len(legs), 3)):
+        every_call_of(s, (line, s.stuck()), (line, 0, pin), (line, 1, pin))
+    s.say("lend target", 5_300)
+    s.write()
+    s.read(drawings.drawing(board))
+
+
+def tied_legs(s):
+    """Gates of every kind and pin count with legs tied high and low at every place, their other legs at 0, 1, x, D and D-bar."""
+    records = [shapes.INPUT] * 4 + [(make.NOT, (3,)), (make.TIE0, ()), (make.TIE1, ())]
+    pins = [chosen for count in (2, 3, 4) for chosen in itertools.product(range(7), repeat=count) if {5, 6}.intersection(chosen)]
+    records += [(kind, (pin,)) for kind in (1, 2) for pin in (5, 6)] + [(s.rng.randrange(3, 9), chosen) for chosen in s.rng.sample(pins, 300)]
+    s.load(shapes.Board(records, sorted(s.rng.sample(range(len(records)), 64))))
+    for fault in ((3, 0), (3, 1), (5, 1), (6, 0), s.pin_fault(), s.pin_fault(), (s.rng.choice((5, 6)), s.stuck(), s.rng.randrange(4))):
+        s.five(0b1011, 0b1010, *fault)
+        s.rows(s.pattern(), *fault)
+
+
+def another_record(s, line):
+    """A good record for a gate's line: where it is a tie the other tie, the same one or a gate with pins, and else a tie."""
+    kind = s.board.records[line][0]
+    if kind not in shapes.TIES:
+        return s.rng.choice(shapes.TIES), ()
+    return s.rng.choice(((kind, ()), (make.TIE0 + make.TIE1 - kind, ()), shapes.gate(s.rng, 0, line, s.rng.choice(shapes.PINNED))))
+
+
+def bad_tie(rng):
+    """Ten bytes of a tie that is bad at any line, by its count or by a pin; or of a kind just over the highest."""
+    data = bytearray(make.record(rng.choice((*shapes.TIES, *shapes.TIES, 11)), *[0] * rng.choice((0, 0, 1, 2, 3, 4))))
+    if data[1] == 0 and rng.random() < 0.2:
+        data[1] = rng.choice((5, 128, 255))
+    elif data[1] == 0:
+        data[rng.randrange(2, 10)] = rng.choice((1, 255))
+    return bytes(data)
+
+
+def tied_alterations(s):
+    """Gates altered to ties and ties to gates, to the other tie and to themselves, with wrong entries planted before; and ties that may not stand."""
+    s.load(s.rng.choice((shapes.tied, shapes.tied, shapes.mixed, shapes.islands))(s.rng, s.rng.randint(2, 4), s.rng.randint(2, 8)))
+    s.book()
+    s.pin_book()
+    for _ in range(8):
+        plant_entries(s)
+        line = s.rng.randrange(s.board.inputs, s.board.lines)
+        record = another_record(s, line)
+        if s.alter(line, shapes.packed(record)):
+            s.board.records[line] = record
+        s.find(line, s.stuck(), s.rng.choice((None, 0, 1)))
+        if s.rng.random() < 0.6:
+            s.alter(s.rng.choice((line, s.gate())), s.rng.choice((bad_tie(s.rng), bad_tie(s.rng), make.record(make.INPUT))))
+    s.alter(s.rng.randrange(s.board.inputs), make.record(s.rng.choice(shapes.TIES)))
+    s.book()
+    s.pin_book()
+
+
+def tied_images(s):
+    """Ties that are bad by their count and by each pin, at line 0 with right and wrong fields, and with an input after them; and kinds over the highest."""
+    s.board = shapes.tied(s.rng, s.rng.randint(1, 3), 2)
+    image, line = s.board.image(), s.rng.randrange(s.board.inputs, s.board.lines)
+    at, first = s.board.record_at(line), s.board.record_at(0)
+    one_pin = [make.changed(make.record(s.rng.choice(shapes.TIES)), place + s.rng.randrange(2), b"\1") for place in range(2, 10, 2)]
+    for data in (*one_pin, bad_tie(s.rng), bad_tie(s.rng), make.record(11), make.record(255), make.record(11, 0)):
+        s.say("load", make.changed(image, at, data))
+    for data in (*map(make.record, shapes.TIES), bad_tie(s.rng), shapes.packed(shapes.gate(s.rng, 0, 1, s.rng.choice(shapes.PINNED))), make.record(11)):
+        s.say("load", make.changed(image, first, data))
+    few = [shapes.INPUT] * s.rng.randint(1, 3)
+    for kind in shapes.TIES:
+        s.say("load", shapes.Board([*few, (kind, ()), shapes.INPUT], [0]).image())
+        s.load(shapes.Board([*few, (kind, ())], [len(few)], shapes.a_note(s.rng)))
+    s.book()
+
+
+def tied_drawings(s):
+    """Drawings with ties, good ones and near ones, at a gate's place and at line 0; and one cut at every byte."""
+    s.load(s.rng.choice((shapes.tied, shapes.ties_only))(s.rng, s.rng.randint(1, 2), s.rng.randint(1, 2)))
+    s.say("lend target", 200)
+    text = drawings.drawing(s.board)
+    s.read(text)
+    s.write()
+    for statement in s.rng.sample(drawings.NEAR_TIES, 24):
+        before, behind = s.rng.choice((b"", b"OUTPUT(n0)\n", b"INPUT(n0)\nOUTPUT(n0)\n", b"INPUT(n0)\nOUTPUT(n1)\n")), s.rng.choice((b"", b"", b"n9", b"\n"))
+        s.read(before + b"n%d = " % before.count(b"INPUT") + statement + behind)
+    for kind, pins in ((make.TIE0, ()), (make.TIE1, ()), shapes.gate(s.rng, 0, 9, s.rng.choice(shapes.PINNED))):
+        s.read(drawings.drawing(shapes.Board([(kind, pins), *s.board.records[s.board.inputs:]], [0])))
+    last = text.rindex(b"n", 0, text.rindex(b" = "))
+    for end in range(last, len(text) + 1):
+        s.say("read", text[:end])
+    s.look("target")
 
 
 # what is no command
@@ -833,7 +949,7 @@ def departures(s):
     s.load(s.rng.choice((shapes.small, shapes.small, shapes.middle))(s.rng))
     parts, text = drawings.statements(s.board), drawings.drawing(s.board)
     s.say("lend target", s.rng.choice((5_300, len(s.board.image()), 0)))
-    for place, other in s.rng.sample(drawings.SPOILS, 18):
+    for place, other in s.rng.sample(drawings.SPOILS, 24):
         s.read(drawings.spoilt(s.rng, text, place, other))
     for _ in range(6):
         s.read(drawings.rearranged(s.rng, parts))
@@ -948,13 +1064,14 @@ def large_drawings(s):
 
 # the parts that every script begins and ends with, and each sort of part between them and how often it comes
 FIRST = (before_load, gate_tables)
-LAST = ((exclusive_ors,) + (few_shared,) * 3 + (refused_drawings, drawing_files, large_drawings, bigger, hall, bigger_books) + (bigger_drawings,) * 2
+LAST = ((ties, tied_legs, tied_alterations, tied_images, tied_drawings, exclusive_ors) + (few_shared,) * 3 + (refused_drawings, drawing_files, large_drawings, bigger, hall, bigger_books) + (bigger_drawings,) * 2
         + (early_patterns, early_patterns, many_inputs, bigger))
 PARTS = {
     exhaustive: 6, every_row: 6, largest: 2, many_inputs: 3, bigger: 1, early_patterns: 1, refusals: 8, every_refusal: 5,
     every_absent_pin: 4, every_book_length: 4, bad_image: 4, bad_boards: 5, damaged_image: 5, random_image: 3, alterations: 10,
     bench_sheet: 2, refreshes: 5, five_values: 5, malformed: 8, lengths: 4, long_lines: 3, files: 5, read_and_write: 3, departures: 4,
     cut_drawing: 1, changed_drawing: 2, random_drawings: 2, boards_named: 3, refused_drawings: 3, drawing_files: 2, drawing_lengths: 2,
+    ties: 4, tied_alterations: 3, tied_images: 2, tied_drawings: 2,
 }
 
 

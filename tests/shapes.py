@@ -63,6 +63,8 @@ class Board:
 
 
 INPUT = (make.INPUT, ())
+# the kinds of gates that have pins, and of those that have none
+PINNED, TIES = range(make.BUFFER, make.XNOR + 1), (make.TIE0, make.TIE1)
 
 
 def packed(record):
@@ -90,14 +92,24 @@ def shared(before, after, line, left_out=None):
     return list(zip(*([bits & row[line] for bits in row] for row in rows)))
 
 
+def is_tie(record):
+    """Whether a record is a line tied to a rail."""
+    return record[0] in TIES
+
+
+def any_kind(rng):
+    """A gate's kind; a tie half as often as any other."""
+    return rng.choice((*PINNED, *PINNED, *TIES))
+
+
 def pin_count(rng, kind):
     """A pin count that is allowed for a gate of this kind."""
-    return 1 if kind < make.AND else rng.randrange(2, 5)
+    return 0 if kind in TIES else 1 if kind < make.AND else rng.randrange(2, 5)
 
 
 def gate(rng, low, line, kind=None):
     """A good gate for a line, with pins from `low` on; some name one line on two pins."""
-    kind = kind or rng.randrange(1, 9)
+    kind = kind or any_kind(rng)
     pins = [rng.randrange(low, line) for _ in range(pin_count(rng, kind))]
     if len(pins) > 1 and rng.random() < 0.15:
         pins[-1] = pins[0]
@@ -152,10 +164,30 @@ def islands(rng, inputs, gates):
     for line in range(inputs, inputs + gates):
         part = line % count
         below = [i for i in range(line) if i % count == part] or [0]
-        kind = rng.randrange(1, 9)
+        kind = any_kind(rng)
         records.append((kind, tuple(rng.choice(below) for _ in range(pin_count(rng, kind)))))
         ends[part] = line
     return Board(records, sorted(set(ends.values())))
+
+
+def tied(rng, inputs, gates):
+    """Gates of every kind, most of them with a leg or two tied to a rail, at any place; ties right after the inputs, among the gates and last."""
+    records = [INPUT] * inputs + [(kind, ()) for kind in rng.choice((TIES, TIES[::-1], TIES[:1], TIES[1:]))]
+    for line in range(len(records), len(records) + gates):
+        kind, pins = gate(rng, 0, line)
+        rails, pins = [i for i, record in enumerate(records) if is_tie(record)], list(pins)
+        for place in rng.sample(range(len(pins)), min(len(pins), rng.choice((0, 1, 1, 1, 2)))):
+            pins[place] = rng.choice(rails)
+        records.append((kind, tuple(pins)))
+    if rng.random() < 0.3:
+        records.append((rng.choice(TIES), ()))
+    return Board(records, some_outputs(rng, len(records), 4))
+
+
+def ties_only(rng, inputs, gates):
+    """No gate but ties; some of them are outputs."""
+    records = [INPUT] * inputs + [(rng.choice(TIES), ()) for _ in range(gates)]
+    return Board(records, some_outputs(rng, len(records), 8))
 
 
 def inputs_only(rng, inputs, _gates):
@@ -171,6 +203,11 @@ def sheet(rng, *_):
     return Board(*rng.choice(((s, [11]), (t, [2]), (h, [2, 3]))))
 
 
+def rails(*_):
+    """The sample board with lines tied to a rail."""
+    return board_of(make.RAILS)
+
+
 def a_note(rng):
     """A note: often none, else up to 256 bytes, some of them with a whole trailer or a whole image inside."""
     kind = rng.randrange(6)
@@ -182,7 +219,7 @@ def a_note(rng):
     return rng.choice((inside, (rng.randbytes(256) + inside)[-256:], inside.ljust(256, b"\0")))
 
 
-SHAPES = (mixed, mixed, chain, tree, redundant, redundant, islands, islands, inputs_only, sheet)
+SHAPES = (mixed, mixed, chain, tree, redundant, redundant, islands, islands, inputs_only, sheet, tied, tied, ties_only, rails)
 
 
 def small(rng):
@@ -194,7 +231,7 @@ def small(rng):
 
 def middle(rng):
     """A board of some ten lines."""
-    board = rng.choice((mixed, redundant, islands))(rng, rng.randint(2, 7), rng.randint(6, 40))
+    board = rng.choice((mixed, redundant, islands, tied))(rng, rng.randint(2, 7), rng.randint(6, 40))
     board.note = a_note(rng)
     return board
 
@@ -238,22 +275,28 @@ def wide(rng):
 
 
 def early(rng):
-    """A board of over 24 inputs whose outputs are gates on the first few, each input of a gate once: an early pattern shows every fault of theirs."""
+    """A board of over 24 inputs whose outputs are gates on the first few, each input of a gate once: an early pattern shows every fault of theirs.
+    No gate is a tie: no pattern at all shows it at its own value."""
     inputs = rng.choice((MOST_INPUTS, MOST_INPUTS, rng.randrange(25, MOST_INPUTS)))
-    kinds = [rng.randrange(1, 9) for _ in range(rng.randint(2, 6))]
+    kinds = [rng.choice(PINNED) for _ in range(rng.randint(2, 6))]
     gates = [(kind, tuple(rng.sample(range(7), pin_count(rng, kind)))) for kind in kinds]
     return Board([INPUT] * inputs + gates, range(inputs, inputs + len(gates)), a_note(rng))
 
 
 def strands(rng):
-    """Strands side by side, each going on through any one pin of a gate whose others are inputs; a few meet, and most end in an output."""
+    """Strands side by side, each going on through any one pin of a gate whose others are inputs; a few meet, a few are cut by a tie, and most end in an
+    output."""
     outputs, lines = rng.choice(((64, 72), (64, 72), (64, 72), (64, 100), (64, 140), (64, 512), (64, 1000), (33, 60), (3, 40)))
     inputs = rng.randint(1, 2) if lines < 512 else 1
     loose = rng.choice((0, 1, (lines - outputs) // 4, (lines - outputs) // 4)) if lines < 1000 else lines // 4
     records, ends = [INPUT] * inputs, [rng.randrange(inputs) for _ in range(outputs + loose)]
     for line in range(inputs, lines):
         strand = line % len(ends) if line < 2 * len(ends) else rng.randrange(len(ends))
-        kind = rng.randrange(1, 9)
+        if rng.random() < 0.04:
+            records.append((rng.choice(TIES), ()))
+            ends[strand] = line
+            continue
+        kind = rng.choice(PINNED)
         pins = [rng.randrange(inputs) for _ in range(pin_count(rng, kind))]
         if rng.random() < 0.1:
             pins[0] = rng.choice(ends)
@@ -283,8 +326,8 @@ def some_islands(rng):
 
 
 def good_record(rng, line):
-    """A record that a gate's line takes; pins near or far."""
-    return gate(rng, rng.choice((0, max(0, line - 6))), line)
+    """A record that a gate's line takes; pins near or far, and a tie more often than `gate` gives one."""
+    return gate(rng, rng.choice((0, max(0, line - 6))), line, rng.choice((*[None] * 8, *TIES)))
 
 
 def bad_record(rng, line):
@@ -294,9 +337,11 @@ def bad_record(rng, line):
     field = rng.randrange(6)
     too_high = rng.choice((line, line + 1, MOST_LINES - 1, MOST_LINES, 65535, line + 256))
     if field == 0:
-        data[0] = rng.choice((0, 9, 10, 128, 255))
+        data[0] = rng.choice((0, 11, 11, 12, 128, 255))
+    elif field == 1 and rng.random() < 0.2:
+        data[0] = rng.choice(TIES if pins else PINNED)
     elif field == 1:
-        data[1] = rng.choice((0, 2, 2, 3, 255) if kind < 3 else (0, 1, 1, 5, 5, 6, 255))
+        data[1] = rng.choice((1, 1, 2, 3, 4, 5, 255) if kind in TIES else (0, 2, 2, 3, 255) if kind < 3 else (0, 1, 1, 5, 5, 6, 255))
     else:
         struct.pack_into("<H", data, 2 * field - 2, max(too_high, line))
     if rng.random() < 0.3:
@@ -353,20 +398,23 @@ def bad_distance(rng, board):
 
 
 def bad_records(rng, board):
-    """Refusal 4: a bad record at the first, the last or any line, a 33rd input, an input after a gate."""
+    """Refusal 4: a bad record at the first, the last or any line, a 33rd input, an input after a gate or after a tie, a gate or a tie at line 0."""
     image = board.image()
-    way = rng.randrange(8)
+    way = rng.randrange(9)
     if way == 0:
         return Board([INPUT] * (MOST_INPUTS + rng.choice((1, 2, 8))) + [(make.AND, (0, 31))], [MOST_INPUTS]).image()
     if way == 1 and board.lines > board.inputs:
         return make.changed(image, board.record_at(board.lines - 1), make.record(make.INPUT))
+    if way == 2:
+        few = [INPUT] * rng.randint(1, 3) + [(rng.choice(TIES), ())]
+        return Board([*few, INPUT, *rng.choice(([], few, [(make.BUFFER, (0,))]))], [0]).image()
     for line in {rng.choice((0, board.lines - 1, rng.randrange(board.lines))) for _ in range(rng.randint(1, 2))}:
         data = bad_record(rng, line)
         if line < board.inputs:
             at = rng.randrange(1, 10)
             data = make.changed(make.record(make.INPUT), at, bytes([rng.randint(1, 255)]))
         if line == 0 and rng.random() < 0.5:
-            data = make.record(rng.randrange(1, 9), *([0] * rng.randint(1, 4)))
+            data = make.record(rng.randrange(1, 12), *([rng.choice((0, 0, 1, 65535))] * rng.randint(0, 4)))
         image = make.changed(image, board.record_at(line), data)
     return image
 
@@ -418,5 +466,5 @@ def random_bytes(rng):
     if way == 1:
         return data + make.MARK
     lines, outputs = rng.randint(1, 8), rng.randint(1, 4)
-    few = bytes(rng.randrange(rng.choice((2, 10))) for _ in range(10 * lines + 2 * outputs))
+    few = bytes(rng.randrange(rng.choice((2, 12))) for _ in range(10 * lines + 2 * outputs))
     return few + struct.pack("<HHI", lines, outputs, 12 + len(few)) + make.MARK
