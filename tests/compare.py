@@ -5,9 +5,10 @@
     tests/compare.py --seed 7 --commands 2000000      millions of commands, from another seed
 
 It prints how often each answer and each refusal of each command arose, of accepted alterations each sort of board, altered line and
-touched line, of exclusive-ors of three and four pins each call with a fault there, x on each pin by itself and three pins at 1, of
-drawings where in a statement they departed from the form, and of boards of over 512 lines and of over 24 inputs each call, accepted and
-refused. It fails where one of these arose fewer than 20 times. Its last line is 'N passed, M failed', where a part of a script counts one.
+touched line, of exclusive-ors of three and four pins each call with a fault there, x on each pin by itself and three pins at 1, of ties
+each call with a fault there and at a leg that they hold, each alteration from and to them, each way in which they are bad, and their
+drawings, of drawings where in a statement they departed from the form, and of boards of over 512 lines and of over 24 inputs each call,
+accepted and refused. It fails where one of these arose fewer than 20 times. Its last line is 'N passed, M failed', where a part of a script counts one.
 """
 import argparse
 import collections
@@ -41,6 +42,16 @@ ON_FAULT = [word.decode() + pin for word in WITH_FAULT for pin in ("", " pin")]
 # the table's rows of exclusive-ors, by their pins
 XORS = {n: f"xor of {n} pins" for n in (3, 4)}
 IMAGE = [str(n) for n in range(1, 6)]
+# the table's rows of lines tied to a rail
+OF_TIES = {
+    "a tie": [*(f"{word.decode()} at {stuck}" for word in WITH_FAULT for stuck in (0, 1)), *(f"{word.decode()} pin refused" for word in WITH_FAULT)],
+    "a tie's row": ["0 beside x", "1 beside x", "D", "D-bar"],
+    "a tied leg": [*ON_FAULT, *(f"pin {pin} at {value}" for pin in range(4) for value in (0, 1)), *(f"of kind {kind}" for kind in shapes.PINNED)],
+    "a tie altered": ["gate to tie", "tie to gate", "to the other", "to itself", "to an input refused", "gate to bad tie refused",
+                      "tie to bad tie refused", "to kind 11 refused", "input to tie refused"],
+    "a bad tie": [*(f"field {field}" for field in range(1, 6)), "at line 0", "an input after it", "kind 11", "a gate at line 0"],
+    "a drawn tie": ["read", "wrote", "saved", "at line 0", "a gate at line 0"],
+}
 # calls that the table counts on large boards too, accepted and refused; a book of many inputs takes too long to be filled
 ON_LARGE = "rows judge find alter refresh five".split()
 REFUSED_ON_LARGE = [f"{call} refused" for call in (*ON_LARGE, "book", "pin book")]
@@ -50,6 +61,10 @@ DEPARTURES = {
     "in INPUT": rb"I[INPUT(n]*",
     "in an input's number": rb"INPUT\(n\d+",
     "in OUTPUT": rb"O[UTP(n]*",
+    "in TIE": rb"n\d+ = TI?",
+    "behind TIE": rb"n\d+ = TIE",
+    "behind a tie's word": rb"n\d+ = TIE[01]",
+    "in a tie's brackets": rb"n\d+ = TIE[01]\(",
     "in a gate's number": rb"n\d*",
     "around =": rb"n\d+ (= ?)?",
     "in a word": rb"n\d+ = [A-Z]+",
@@ -110,11 +125,12 @@ CAN_ANSWER = {
     "a limit": ["4096 lines", "4097 lines", "32 inputs", "a 33rd input"],
     "of 32 inputs": [f"a pattern of {bits} bits" for bits in (32, 33, 64)],
     "an entry put": [str(entry) for entry in scripts.EDGES],
+    **OF_TIES,
     **{name: [*ON_FAULT, "three at 1", *(f"x on pin {pin} only" for pin in range(n))] for n, name in XORS.items()},
 }
 # rows of the table that say more of an answer that another row has counted
 CLOSER = ("a bad record", "alter's 9", "altered board", "altered line", "touched", "a pattern", "a departure", "> 512 lines", "> 24 inputs",
-          "a limit", "of 32 inputs", "an entry put", *XORS.values())
+          "a limit", "of 32 inputs", "an entry put", *OF_TIES, *XORS.values())
 FIXED = (b"? line too long", b"? cannot read")
 
 
@@ -311,6 +327,83 @@ def of_row(image, row):
             yield XORS[len(pins)], f"x on pin {values.index(2)} only"
 
 
+@functools.lru_cache(maxsize=2)
+def tied_board(image):
+    """A good image's board and its ties, as line and value."""
+    board = shapes.board_of(image)
+    return board, {line: kind - make.TIE0 for line, (kind, _) in enumerate(board.records) if kind in shapes.TIES}
+
+
+def of_tied_fault(image, name, command, answer):
+    """What the table counts of a call with a fault, accepted or refused by 12: one on a tie, and one on a gate or the very pin that a tie holds."""
+    place, stuck = command.rsplit(b" ", 1)[1].split(b"/")
+    line, pin = (int(word) for word in (place + b".99").split(b".")[:2])
+    board, ties = tied_board(image)
+    if line in ties:
+        return [("a tie", f"{name} refused" if answer == b"refused 12" else f"{name} at {int(stuck)}")]
+    kind, pins = board.records[line]
+    held = [i for i, below in enumerate(pins) if below in ties and pin in (i, 99)]
+    if not held or answer == b"refused 12":
+        return []
+    return [("a tied leg", name), ("a tied leg", f"of kind {kind}"), *(("a tied leg", f"pin {i} at {ties[pins[i]]}") for i in held)]
+
+
+def of_tied_row(image, row):
+    """What the table counts of a row that a call has filled: ties that are settled beside an x, and ties at D and D-bar."""
+    for line in tied_board(image)[1]:
+        if 2 in row and row[line] < 2:
+            yield "a tie's row", f"{row[line]} beside x"
+        if row[line] > 2:
+            yield "a tie's row", "D" if row[line] == 3 else "D-bar"
+
+
+def of_tied_alteration(image, command, answer):
+    """What the table counts of an alteration, accepted or refused by 10, from a tie or to one."""
+    _, line, data = command.split(b" ")
+    old, new = tied_board(image)[0].records[int(line)][0], int(data[:2], 16)
+    from_tie, to_tie = old in shapes.TIES, new in shapes.TIES
+    if answer.startswith(b"found "):
+        forms = {"gate to tie": to_tie and not from_tie, "tie to gate": from_tie and not to_tie, "to itself": from_tie and new == old,
+                 "to the other": from_tie and to_tie and new != old}
+    else:
+        forms = {"to an input refused": from_tie and new == make.INPUT, "gate to bad tie refused": to_tie and 0 < old < make.TIE0,
+                 "tie to bad tie refused": from_tie and to_tie, "to kind 11 refused": new == 11, "input to tie refused": to_tie and old == make.INPUT}
+    return [("a tie altered", form) for form, holds in forms.items() if holds]
+
+
+def of_bad_tie(image, line, field):
+    """What the table counts of a record that refusal 4 names: a tie, what stands at line 0 or behind a tie, and a kind just over the highest."""
+    at = len(image) - int.from_bytes(image[-8:-4], "little") + 10 * line
+    kind, before = image[at], image[at - 10] if line else make.INPUT
+    forms = {"at line 0": line == 0 and kind in shapes.TIES, "a gate at line 0": line == 0 and kind in shapes.PINNED, "kind 11": kind == 11,
+             "an input after it": (kind, field) == (make.INPUT, 0) and before in shapes.TIES}
+    return [("a bad tie", form) for form, holds in forms.items() if holds] + [("a bad tie", f"field {field}")] * (kind in shapes.TIES and field > 0)
+
+
+def of_drawn_tie(image, name, command, answer):
+    """What the table counts of a drawing that is read or written: one with a tie, and one that begins with a gate."""
+    if name in ("write", "export"):
+        return [("a drawn tie", answer.split(b" ")[0].decode())] * (image is not None and bool(tied_board(image)[1]))
+    text = bytes.fromhex(command[5:].decode().replace("-", ""))
+    if answer.startswith(b"read "):
+        return [("a drawn tie", "read")] * (b"TIE" in text)
+    return [("a drawn tie", "at line 0" if re.search(rb"^n0 = TIE", text, re.M) else "a gate at line 0")] * (answer == b"refused 4 at 0.0")
+
+
+def of_ties(image, name, command, answer):
+    """What the table counts of lines tied to a rail, from a command, its answer and the kept image before it."""
+    accepted = not answer.startswith((b"refused ", b"? "))
+    if name == "load" and answer.startswith(b"refused 4 at "):
+        return of_bad_tie(bytes.fromhex(command[5:].decode()), *map(int, answer[13:].split(b".")))
+    if name == "read" or name in ("write", "export") and accepted:
+        return [] if answer.startswith(b"? ") else of_drawn_tie(image, name, command, answer)
+    if image and name in ON_FAULT and (accepted or answer == b"refused 12"):
+        return of_tied_fault(image, name, command, answer)
+    if image and name == "alter" and (accepted or answer == b"refused 10"):
+        return of_tied_alteration(image, command, answer)
+    return []
+
+
 def of_pattern(pattern):
     """What the table counts of a pattern that Find gives: where it stands among the 64 patterns of a word and the 512 of a block."""
     return "of the first word" if pattern < 64 else "of the first block" if pattern < 512 else "of a later block"
@@ -369,12 +462,14 @@ def counted(commands, answered):
         if (name, answer) == ("alter", b"refused 9"):
             counts["alter's 9", wrong_books(*lent)] += 1
         image = image_after(image, command, answer)
+        counts.update(of_ties(image, name, command, answer))
         if name == "alter" and answer.startswith(b"found ") and image:
             before, after, line = alteration(image, command)
             counts.update(of_alteration(before, after, line))
             image = after.image()
         if filled and command == b"show good 0" and image:
-            counts.update(of_row(image, bytes.fromhex(answer[4:].decode())))
+            row = bytes.fromhex(answer[4:].decode())
+            counts.update([*of_row(image, row), *of_tied_row(image, row)])
         accepted = name in ON_FAULT and not answer.startswith((b"refused ", b"? "))
         if accepted and image:
             counts.update(of_fault(image, name, command))
