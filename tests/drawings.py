@@ -189,6 +189,11 @@ def many(inputs, gates):
     return "".join(text + [f"n{line} = NOT(n0)\n" for line in range(inputs, inputs + gates)]).encode()
 
 
+def tied(ties):
+    """A text of one input, two outputs and so many ties, high and low in turn."""
+    return "".join(["INPUT(n0)\n", "OUTPUT(n0)\n", f"OUTPUT(n{ties})\n"] + [f"n{line} = TIE{line % 2}()\n" for line in range(1, ties + 1)]).encode()
+
+
 def longest():
     """The longest drawing there is: of the most lines and 64 outputs, with four pins a gate."""
     lines = shapes.MOST_LINES
@@ -203,9 +208,9 @@ def files():
     return {"board.txt": drawing(shapes.board_of(make.S)), "longest.txt": longest(), "one-more.txt": many(1, shapes.MOST_LINES),
             "inputs.txt": many(65_537, 0), "lines.txt": many(60_000, 5_537),
             "outputs.txt": b"INPUT(n0)\n" + b"OUTPUT(n0)\n" * 65_537, "most.txt": exactly(most), "late.txt": exactly(most)[:-1] + b"\r",
-            "garbage.txt": b"INPUT(n0)\nOUTPUT(n0)\n" + bytes(range(256)) * 4_000, "over.txt": exactly(most + 1)}
+            "ties.txt": tied(shapes.MOST_LINES - 1), "garbage.txt": b"INPUT(n0)\nOUTPUT(n0)\n" + bytes(range(256)) * 4_000, "over.txt": exactly(most + 1)}
 
 
-LARGE = ("longest.txt", "one-more.txt", "inputs.txt", "lines.txt", "outputs.txt", "most.txt", "late.txt", "garbage.txt", "over.txt")
+LARGE = ("longest.txt", "one-more.txt", "ties.txt", "inputs.txt", "lines.txt", "outputs.txt", "most.txt", "late.txt", "garbage.txt", "over.txt")
 # of as many bytes as import takes, and one more
 LONGEST = ("most.txt", "over.txt")
