@@ -17,9 +17,10 @@ import programs
 from shapes import make
 
 record, image, changed = make.record, make.image, make.changed
-INPUT, BUFFER, NOT, AND, OR, XOR, XNOR, T = make.INPUT, make.BUFFER, make.NOT, make.AND, make.OR, make.XOR, make.XNOR, make.T
+INPUT, BUFFER, NOT, AND, NAND, OR, NOR = make.INPUT, make.BUFFER, make.NOT, make.AND, make.NAND, make.OR, make.NOR
+XOR, XNOR, TIE0, TIE1, T, RAILS = make.XOR, make.XNOR, make.TIE0, make.TIE1, make.T, make.RAILS
 NONE = 18446744073709551615
-S_COUNTS, T_COUNTS = "board 12 lines 4 inputs 1 outputs", "board 3 lines 1 inputs 1 outputs"
+S_COUNTS, T_COUNTS, RAILS_COUNTS = "board 12 lines 4 inputs 1 outputs", "board 3 lines 1 inputs 1 outputs", "board 8 lines 2 inputs 3 outputs"
 
 
 def chain(lines):
@@ -30,6 +31,77 @@ def chain(lines):
 # the largest board there is: 32 inputs, 4,064 buffers of input 0, and the last 64 lines as outputs
 LARGEST = [record(INPUT)] * 32 + [record(BUFFER, 0)] * 4064
 LARGEST_COUNTS = "board 4096 lines 32 inputs 64 outputs"
+
+
+def behind_input(*records):
+    """The image of an input, the output, with these records behind it."""
+    return image([record(INPUT), *records], [0])
+
+
+# document 02, W7: lines tied to a rail, kinds 9 and 10, which have no pins; a line 0 that is no input, whatever else is right or wrong with it
+TIED_IMAGES = [
+    ("the tie-breaker", RAILS, RAILS_COUNTS),
+    ("kind 9", behind_input(record(TIE0)), "board 2 lines 1 inputs 1 outputs"),
+    ("kind 10", behind_input(record(TIE1)), "board 2 lines 1 inputs 1 outputs"),
+    ("a tie as the output", image([record(INPUT), record(TIE1)], [1]), "board 2 lines 1 inputs 1 outputs"),
+    ("4,095 ties", behind_input(*[record(TIE1)] * 4095), "board 4096 lines 1 inputs 1 outputs"),
+    ("4,096 ties", behind_input(*[record(TIE0)] * 4096), "refused 2"),
+    ("a tie behind 32 inputs", image([record(INPUT)] * 32 + [record(TIE0)], [32]), "board 33 lines 32 inputs 1 outputs"),
+    ("a tie behind 33 inputs", image([record(INPUT)] * 33 + [record(TIE0)], [33]), "refused 4 at 32.0"),
+    ("an input after kind 9", behind_input(record(TIE0), record(INPUT)), "refused 4 at 2.0"),
+    ("an input after kind 10", behind_input(record(TIE1), record(INPUT)), "refused 4 at 2.0"),
+    ("an input after a tie and a gate", behind_input(record(TIE1), record(AND, 0, 1), record(INPUT)), "refused 4 at 3.0"),
+    ("an input with a pin after a tie", behind_input(record(TIE1), record(INPUT, 0)), "refused 4 at 2.0"),
+    ("a gate that reads a tie", behind_input(record(TIE1), record(NOT, 1)), "board 3 lines 1 inputs 1 outputs"),
+    ("a gate that reads a tie above it", behind_input(record(AND, 0, 2), record(TIE1)), "refused 4 at 1.3"),
+    ("kind 11", behind_input(record(11)), "refused 4 at 1.0"),
+    ("kind 11 with two pins", behind_input(record(11, 0, 0)), "refused 4 at 1.0"),
+    ("kind 12", behind_input(record(12)), "refused 4 at 1.0"),
+    ("kind 128", behind_input(record(128)), "refused 4 at 1.0"),
+    ("kind 255", behind_input(record(255)), "refused 4 at 1.0"),
+    ("kind 11 behind a tie", behind_input(record(TIE0), record(11)), "refused 4 at 2.0"),
+    # a count that is not 0, before a pin that is bad too
+    ("kind 9 with a pin", behind_input(record(TIE0, 0)), "refused 4 at 1.1"),
+    ("kind 10 with a pin", behind_input(record(TIE1, 0)), "refused 4 at 1.1"),
+    ("kind 9 with a pin too high", behind_input(record(TIE0, 9)), "refused 4 at 1.1"),
+    ("kind 10 with two pins", behind_input(record(TIE1, 0, 0)), "refused 4 at 1.1"),
+    ("kind 9 with three pins", behind_input(record(TIE0, 0, 0, 0)), "refused 4 at 1.1"),
+    ("kind 10 with four pins", behind_input(record(TIE1, 0, 0, 0, 0)), "refused 4 at 1.1"),
+    ("kind 9 with 255 pins", behind_input(changed(record(TIE0), 1, b"\xff")), "refused 4 at 1.1"),
+    ("kind 10 with 255 pins", behind_input(changed(record(TIE1), 1, b"\xff")), "refused 4 at 1.1"),
+    # an unused pin that is not 0, and of two the first
+    ("kind 9, field 2", behind_input(changed(record(TIE0), 2, b"\1")), "refused 4 at 1.2"),
+    ("kind 9, field 3", behind_input(changed(record(TIE0), 4, b"\1")), "refused 4 at 1.3"),
+    ("kind 9, field 4", behind_input(changed(record(TIE0), 6, b"\1")), "refused 4 at 1.4"),
+    ("kind 9, field 5", behind_input(changed(record(TIE0), 8, b"\1")), "refused 4 at 1.5"),
+    ("kind 10, field 2 over 255", behind_input(changed(record(TIE1), 3, b"\1")), "refused 4 at 1.2"),
+    ("kind 10, field 3 over 255", behind_input(changed(record(TIE1), 5, b"\1")), "refused 4 at 1.3"),
+    ("kind 10, field 4 over 255", behind_input(changed(record(TIE1), 7, b"\1")), "refused 4 at 1.4"),
+    ("kind 10, field 5 over 255", behind_input(changed(record(TIE1), 9, b"\1")), "refused 4 at 1.5"),
+    ("kind 10, fields 3 and 5", behind_input(changed(record(TIE1), 4, b"\1\0\0\0\1")), "refused 4 at 1.3"),
+    # line 0
+    ("kind 9 at line 0", image([record(TIE0)], [0]), "refused 4 at 0.0"),
+    ("kind 10 at line 0", image([record(TIE1), record(INPUT)], [0]), "refused 4 at 0.0"),
+    ("kind 9 at line 0 with a pin", image([record(TIE0, 0)], [0]), "refused 4 at 0.0"),
+    ("kind 10 at line 0 with 255 pins", image([changed(record(TIE1), 1, b"\xff")], [0]), "refused 4 at 0.0"),
+    ("kind 10 at line 0, field 4", image([changed(record(TIE1), 6, b"\1")], [0]), "refused 4 at 0.0"),
+    ("kind 11 at line 0", image([record(11)], [0]), "refused 4 at 0.0"),
+    ("kind 255 at line 0", image([record(255, 9, 9)], [0]), "refused 4 at 0.0"),
+    ("a not at line 0", image([record(NOT, 0)], [0]), "refused 4 at 0.0"),
+    ("a not of two pins at line 0", image([record(NOT, 0, 0)], [0]), "refused 4 at 0.0"),
+    ("a buffer of no pin at line 0", image([record(BUFFER)], [0]), "refused 4 at 0.0"),
+    ("an and at line 0", image([record(AND, 0, 0)], [0]), "refused 4 at 0.0"),
+    ("an and of one pin at line 0", image([record(AND, 0)], [0]), "refused 4 at 0.0"),
+    ("an exclusive-or of 255 pins at line 0", image([changed(record(XOR, 0, 0), 1, b"\xff")], [0]), "refused 4 at 0.0"),
+    ("its opposite at line 0, field 5", image([changed(record(XNOR, 0, 0), 8, b"\1")], [0]), "refused 4 at 0.0"),
+    ("an input with a pin at line 0", image([record(INPUT, 0)], [0]), "refused 4 at 0.1"),
+    ("an input at line 0, field 2", image([changed(record(INPUT), 2, b"\1")], [0]), "refused 4 at 0.2"),
+    # 2 and 3 come before 4, and 4 before 5
+    ("a tie at line 0 and no output", image([record(TIE0)], []), "refused 2"),
+    ("a tie at line 0 behind a note of 257", image([record(TIE0)], [0], note=bytes(257)), "refused 3"),
+    ("a tie at line 0 and an output that is not there", image([record(TIE1)], [7]), "refused 4 at 0.0"),
+    ("a tie and an output that is not there", image([record(INPUT), record(TIE1)], [1, 2]), "refused 5 at 1"),
+]
 
 # what an image is, the image, and what Check says of it
 IMAGES = [
@@ -63,15 +135,16 @@ IMAGES = [
     ("32 inputs", image([record(INPUT)] * 32 + [record(AND, 0, 31)], [32]), "board 33 lines 32 inputs 1 outputs"),
     ("a 33rd input at line 32", image([record(INPUT)] * 33 + [record(AND, 0, 31)], [32]), "refused 4 at 32.0"),
     ("an input after a gate", image([record(INPUT), record(NOT, 0), record(INPUT)], [2]), "refused 4 at 2.0"),
-    ("kind 9", image([record(INPUT), record(9, 0)], [1]), "refused 4 at 1.0"),
+    ("kind 11", image([record(INPUT), record(11, 0)], [1]), "refused 4 at 1.0"),
     ("255 pins", changed(T, 21, b"\xff"), "refused 4 at 2.1"),
     ("one pin of an and", image([record(INPUT), record(NOT, 0), record(AND, 0)], [2]), "refused 4 at 2.1"),
-    ("a gate at line 0", image([record(BUFFER, 0)], [0]), "refused 4 at 0.2"),
+    ("a gate at line 0", image([record(BUFFER, 0)], [0]), "refused 4 at 0.0"),
     ("a pin that names its own line", image([record(INPUT), record(OR, 0, 1)], [1]), "refused 4 at 1.3"),
     ("an unused pin not 0", changed(T, 28, b"\x07"), "refused 4 at 2.5"),
     ("an output not below the line count", image(chain(3), [3]), "refused 5 at 0"),
     ("an output not above the one before", image(chain(3), [0, 2, 2]), "refused 5 at 2"),
     ("output line 0 in first place", image(chain(3), [0]), "board 3 lines 1 inputs 1 outputs"),
+    *TIED_IMAGES,
 ]
 
 # what is asked of board T, and the answer
@@ -692,8 +765,84 @@ DEPARTS = [
     ("n0 = not(n0)\n", 5),
     ("n0 = And(n0)\n", 6),
     ("n0 = INPUT(n0)\n", 5),
-    ("n0 = TIE0()\n", 5),
-    # one to four pins
+    # TIE0 and TIE1 share TIE with each other, and a T with no other word
+    ("n0 = T", 6),
+    ("n0 = TI", 7),
+    ("n0 = TIE", 8),
+    ("n0 = TIE0", 9),
+    ("n0 = TIE1", 9),
+    ("n0 = T()\n", 6),
+    ("n0 = T0()\n", 6),
+    ("n0 = TX", 6),
+    ("n0 = TI()\n", 7),
+    ("n0 = TI0()\n", 7),
+    ("n0 = TIX", 7),
+    ("n0 = TIE()\n", 8),
+    ("n0 = TIE(n0)\n", 8),
+    ("n0 = TIE2()\n", 8),
+    ("n0 = TIE9()\n", 8),
+    ("n0 = TIEO()\n", 8),
+    ("n0 = TIED()\n", 8),
+    ("n0 = TIE 0()\n", 8),
+    ("n0 = TIE-0()\n", 8),
+    ("n0 = TIE00()\n", 9),
+    ("n0 = TIE01()\n", 9),
+    ("n0 = TIE10()\n", 9),
+    ("n0 = TIE11()\n", 9),
+    ("n0 = TIE0 ()\n", 9),
+    ("n0 = TIE0\n", 9),
+    ("n0 = TIE1)\n", 9),
+    ("n0 = TIE1[]\n", 9),
+    ("n0 = tie0()\n", 5),
+    ("n0 = Tie0()\n", 6),
+    ("n0 = TIe1()\n", 7),
+    ("n0 = NTIE0()\n", 6),
+    ("n0 = XTIE1()\n", 6),
+    ("n0 = 0()\n", 5),
+    ("n0 = ()\n", 5),
+    ("TIE0()\n", 0),
+    # empty brackets behind them, and nothing in these
+    ("n0 = TIE0(", 10),
+    ("n0 = TIE1(", 10),
+    ("n0 = TIE0(n", 10),
+    ("n0 = TIE0(n0", 10),
+    ("n0 = TIE0(n0)\n", 10),
+    ("n0 = TIE1(n0)\n", 10),
+    ("n0 = TIE1(n0, n0)\n", 10),
+    ("n0 = TIE0( )\n", 10),
+    ("n0 = TIE1(0)\n", 10),
+    ("n0 = TIE0(,)\n", 10),
+    ("n0 = TIE0(()\n", 10),
+    ("n0 = TIE1(\n", 10),
+    ("n0 = TIE0()", 11),
+    ("n0 = TIE1()", 11),
+    ("n0 = TIE0())\n", 11),
+    ("n0 = TIE0() \n", 11),
+    ("n0 = TIE1()\r\n", 11),
+    ("n0 = TIE1(), n0\n", 11),
+    ("n0 = TIE0()TIE1()\n", 11),
+    # a tie is a gate: its number is the next one, and no input or output comes after it
+    ("n0= TIE0()\n", 2),
+    ("n0 =TIE1()\n", 4),
+    ("n0 =  TIE1()\n", 5),
+    ("n1 = TIE0()\n", 1),
+    ("n0 = TIE0()\n\n", 12),
+    ("n0 = TIE0()\nTIE1()\n", 12),
+    ("n0 = TIE0()\nINPUT(n1)\n", 12),
+    ("n0 = TIE1()\nOUTPUT(n0)\n", 12),
+    ("n0 = TIE0()\nn0 = TIE1()\n", 13),
+    ("n0 = TIE1()\nn2 = TIE0()\n", 13),
+    ("INPUT(n0)\nn0 = TIE0()\n", 11),
+    ("INPUT(n0)\nn1 = TIE1()\nINPUT(n2)\n", 22),
+    ("INPUT(n0)\nn1 = TIE1()\nn2 = TIE1(n0)\n", 32),
+    # one to four pins behind every other word
+    ("n0 = BUFF()\n", 10),
+    ("n0 = NOT()\n", 9),
+    ("n0 = NAND()\n", 10),
+    ("n0 = OR()\n", 8),
+    ("n0 = NOR()\n", 9),
+    ("n0 = XOR()\n", 9),
+    ("n0 = XNOR()\n", 10),
     ("n0 = AND()\n", 9),
     ("n0 = AND(0)\n", 9),
     ("n0 = AND(n)\n", 10),
@@ -753,10 +902,35 @@ NAMED = [
     (drawn(inputs=4097) + "x", "refused 13 at 52162"),
     (drawn("AND(n0)") + "x", "refused 13 at 34"),
     (drawn(outputs=[0, 0]) + "n1 = NOT(n0)", "refused 13 at 44"),
-    # a board of gates alone
-    (drawn("NOT(n0)", inputs=0), "refused 4 at 0.2"),
-    (drawn("NOT(n0, n0)", inputs=0), "refused 4 at 0.1"),
-    (drawn("AND(n0, n0)", "NOT(n0)", inputs=0), "refused 4 at 0.2"),
+    # a board of gates alone: line 0 is no input
+    (drawn("NOT(n0)", inputs=0), "refused 4 at 0.0"),
+    (drawn("NOT(n0, n0)", inputs=0), "refused 4 at 0.0"),
+    (drawn("AND(n0, n0)", "NOT(n0)", inputs=0), "refused 4 at 0.0"),
+    (drawn("AND(n9)", inputs=0), "refused 4 at 0.0"),
+    (drawn("BUFF(n65535)", inputs=0), "refused 4 at 0.0"),
+    (drawn("XNOR(n0, n1, n2, n3)", inputs=0), "refused 4 at 0.0"),
+    (drawn("TIE0()", inputs=0), "refused 4 at 0.0"),
+    (drawn("TIE1()", inputs=0), "refused 4 at 0.0"),
+    (drawn("TIE1()", "NOT(n0, n0)", inputs=0, outputs=[9]), "refused 4 at 0.0"),
+    # boards with ties
+    ("n0 = TIE0()\n", "refused 2"),
+    ("n0 = TIE1()\n", "refused 2"),
+    (drawn("TIE0()"), "read 34"),
+    (drawn("TIE1()"), "read 34"),
+    (drawn("TIE1()", outputs=[0, 1]), "read 36"),
+    (drawn("TIE0()", "TIE1()", "AND(n0, n2)", outputs=[1, 2, 3]), "read 58"),
+    (drawn(*["TIE1()"] * 4095, outputs=[4095]), "read 40974"),
+    (drawn(*["TIE0()"] * 4096, outputs=[4095]), "refused 2"),
+    (drawn("TIE0()", inputs=32), "read 344"),
+    (drawn("TIE0()", inputs=33), "refused 4 at 32.0"),
+    (drawn("TIE0()", "NOT(n2)"), "refused 4 at 2.2"),
+    (drawn("TIE1()", "NOT(n1, n1)"), "refused 4 at 2.1"),
+    (drawn("AND(n0, n2)", "TIE1()"), "refused 4 at 1.3"),
+    (drawn("TIE1()", outputs=[2]), "refused 5 at 0"),
+    (drawn("TIE1()", outputs=[1, 0]), "refused 5 at 1"),
+    (drawn("TIE0()") + "x", "refused 13 at 33"),
+    (drawn("TIE0()", inputs=0) + "x", "refused 13 at 23"),
+    (drawn("TIE0(n0)", inputs=0), "refused 13 at 21"),
     # a pin count wrong for its kind, before a bad pin
     (drawn("BUFF(n0, n0)"), "refused 4 at 1.1"),
     (drawn("NOT(n0, n0)"), "refused 4 at 1.1"),
@@ -792,7 +966,9 @@ NAMED = [
 
 T_TEXT = "INPUT(n0)\nOUTPUT(n2)\nn1 = NOT(n0)\nn2 = OR(n0, n1)\n"
 H_TEXT = "INPUT(n0)\nINPUT(n1)\nOUTPUT(n2)\nOUTPUT(n3)\nn2 = NOT(n0)\nn3 = BUFF(n1)\n"
-# one gate of each word; lines 1 to 8 are of kinds 1 to 8, and their pins stand in no order
+RAILS_TEXT = ("INPUT(n0)\nINPUT(n1)\nOUTPUT(n5)\nOUTPUT(n6)\nOUTPUT(n7)\nn2 = TIE0()\nn3 = TIE1()\nn4 = NOT(n0)\nn5 = AND(n0, n3)\n"
+              "n6 = AND(n1, n4, n3)\nn7 = OR(n5, n6, n2)\n")
+# one gate of each word that takes pins; lines 1 to 8 are of kinds 1 to 8, and their pins stand in no order
 WORDS_TEXT = ("INPUT(n0)\nOUTPUT(n0)\nOUTPUT(n8)\nn1 = BUFF(n0)\nn2 = NOT(n1)\nn3 = AND(n2, n0)\nn4 = NAND(n3, n0, n3)\nn5 = OR(n4, n1, n2, n0)\n"
               "n6 = NOR(n5, n5)\nn7 = XOR(n0, n6, n1)\nn8 = XNOR(n7, n0, n6, n2)\n")
 WORDS = image([record(INPUT), record(1, 0), record(2, 1), record(3, 2, 0), record(4, 3, 0, 3), record(5, 4, 1, 2, 0), record(6, 5, 5),
@@ -918,6 +1094,7 @@ FILES = {
     "longer.txt": LONGEST_TEXT + "\n",
     "kept.txt": "kept\n",
     "over.txt": "x" * 999,
+    "rails.txt": RAILS_TEXT,
     "4096.txt": drawn(*buffers(4096), outputs=[4095]),
     "4097.txt": drawn(*buffers(4097), outputs=[4095]),
 }
@@ -972,9 +1149,12 @@ ON_FILES = [
     ("import FOLDER/4096.txt", "board 4096 lines 1 inputs 1 outputs"),
     ("image", "image " + image(chain(4096), [4095]).hex()),
     ("export FOLDER/again-4096.txt", "saved"),
+    ("import FOLDER/rails.txt", RAILS_COUNTS),
+    ("image", "image " + RAILS.hex()),
+    ("export FOLDER/again-rails.txt", "saved"),
 ]
 # the files that are then in the folder and were not, or hold something else
-LEFT = {"new.txt": H_TEXT, "over.txt": T_TEXT, "again-4096.txt": FILES["4096.txt"]}
+LEFT = {"new.txt": H_TEXT, "over.txt": T_TEXT, "again-4096.txt": FILES["4096.txt"], "again-rails.txt": RAILS_TEXT}
 
 # document 02, W6: bigger boards
 
@@ -1102,6 +1282,240 @@ ON_ONES_OF_32 = [
     ("find 42/1", "0"),
 ]
 
+# document 02, W7: lines tied to a rail
+
+# the tie-breaker: inputs 0 and 1, 2 always 0, 3 always 1, 4 not(0), 5 and(0,3), 6 and(1,4,3), 7 or(5,6,2); outputs 5, 6 and 7. So 5 is input 0, 6 is
+# input 1 without input 0, and 7 is either
+ON_RAILS = [
+    ("find 2/0", "none"),
+    ("find 2/1", "0"),
+    ("find 3/0", "1"),
+    ("find 3/1", "none"),
+    ("find 5.1/0", "1"),
+    ("find 5.1/1", "none"),
+    ("find 6.2/0", "2"),
+    ("find 7.2/0", "none"),
+    ("find 7.2/1", "0"),
+    ("book", "found 14 of 16"),
+    ("entries", f"entries 1 0 2 0 {NONE} 0 1 {NONE} 2 3 1 0 2 0 1 0"),
+    ("pin book", "found 15 of 64"),
+    ("pin entries", book("pins", (NONE, 32), (3, 1), (2, 1), (NONE, 6), (1, 1), (0, 1), (1, 1), (NONE, 5), (2, 1), (0, 1), (2, 1), (3, 1), (2, 1),
+                         (NONE, 3), (1, 1), (0, 1), (2, 1), (0, 1), (NONE, 1), (0, 1), (NONE, 2))),
+    # no pin of a tie is there, tested after 7 and before 8
+    ("find 2.0/0", "refused 12"),
+    ("find 3.0/1", "refused 12"),
+    ("find 2.1/1", "refused 12"),
+    ("find 3.3/0", "refused 12"),
+    ("find 2.4/0", "refused 12"),
+    ("find 3.256/0", "refused 12"),
+    ("find 2.18446744073709551615/1", "refused 12"),
+    ("find 2.0/2", "refused 7"),
+    ("find 8.0/0", "refused 6"),
+    ("judge 0 2.0/1", "refused 12"),
+    ("judge 4 3.0/0", "refused 12"),
+    ("judge 4 3.0/2", "refused 7"),
+    ("judge 4 3/0", "refused 8"),
+    ("rows 4 2.0/1", "refused 12"),
+    ("five 4 0 3.0/1", "refused 12"),
+    ("judge 0 2/1", "yes"),
+    ("judge 0 2/0", "no"),
+    ("judge 3 2/1", "no"),
+    ("judge 3 3/0", "yes"),
+    ("judge 0 3/0", "no"),
+    ("judge 3 3/1", "no"),
+    ("rows 3 3/0", "filled"),
+    ("show good 0", "row 0101000100010001"),
+    ("show faulty 0", "row 0101000000000000"),
+    ("rows 0 2/1", "filled"),
+    ("show good 0", "row 0000000101000000"),
+    ("show faulty 0", "row 0000010101000001"),
+    ("rows 3 3/1", "filled"),
+    ("show faulty 0", "row 0101000100010001"),
+    # a tie is settled, and so is D or D-bar where it is struck, whatever is x
+    ("five 0 0 2/0", "drives 0"),
+    ("show good 0", "row 0202000102020202"),
+    ("five 0 0 2/1", "drives 0"),
+    ("show good 0", "row 0202040102020202"),
+    ("five 0 0 3/1", "drives 0"),
+    ("show good 0", "row 0202000102020202"),
+    ("five 0 0 3/0", "drives 0"),
+    ("show good 0", "row 0202000302020202"),
+    ("five 1 1 3/0", "drives 2"),
+    ("show good 0", "row 0102000300030003"),
+    ("five 1 0 2/1", "drives 0"),
+    ("show good 0", "row 0002040101000202"),
+    ("five 3 0 2/1", "drives 1"),
+    ("show good 0", "row 0000040101000004"),
+    ("five 1 1 5.1/0", "drives 2"),
+    ("show good 0", "row 0102000100030003"),
+    ("five 1 1 5.1/1", "drives 0"),
+    ("show good 0", "row 0102000100010001"),
+    ("five 0 0 7.2/1", "drives 0"),
+    ("show good 0", "row 0202000102020202"),
+    # refreshed from a tie on, and from behind ties whose stored bytes are wrong and are used as they stand
+    ("put good 0101050505050505", "lent"),
+    ("refresh 2 0", "filled"),
+    ("show good 0", "row 0101000100010001"),
+    ("put good 0100010009090909", "lent"),
+    ("refresh 4 0", "filled"),
+    ("show good 0", "row 0100010000000001"),
+    ("put good 0100020009090909", "lent"),
+    ("refresh 3 0", "refused 11"),
+    ("refresh 2 0", "filled"),
+    ("show good 0", "row 0100000100010001"),
+    # its drawing is 148 bytes, and its image 98
+    ("lend target 148", "lent"),
+    ("write", "wrote 148"),
+    ("target", held(RAILS_TEXT.encode())),
+    ("lend target 147", "lent"),
+    ("write", "refused 14"),
+    ("target", held(b"", 147)),
+    (read(RAILS_TEXT), "read 98"),
+    ("target", held(RAILS, 49)),
+    ("lend target 97", "lent"),
+    (read(RAILS_TEXT), "refused 14"),
+    ("target", held(b"", 97)),
+    ("lend target 98", "lent"),
+    (read(RAILS_TEXT), "read 98"),
+    ("target", held(RAILS)),
+    (read(RAILS_TEXT[:-1]), "refused 13 at 147"),
+    (read(RAILS_TEXT.replace("TIE1()", "TIE1(n0)")), "refused 13 at 75"),
+]
+
+# T's lines altered to ties and back. With a tie on line 2 nothing else reaches the output; with one on line 1 line 2 is input 0 or always 1
+TIED_T = [
+    ("alter 2 0a000000000000000000", "found 1 of 30"),
+    ("entries", book("entries", (NONE, 4), (0, 1), (NONE, 1))),
+    ("pin entries", book("pins", (NONE, 24))),
+    ("image", "image " + changed(T, 20, record(TIE1)).hex()),
+    ("find 2.0/0", "refused 12"),
+    # the same tie, and then the other: line 2 alone is touched, its absent pins too
+    ("put entry 0 77", "lent"),
+    ("put entry 4 77", "lent"),
+    ("put pin 8 77", "lent"),
+    ("put pin 16 77", "lent"),
+    ("alter 2 0a000000000000000000", "found 3 of 30"),
+    ("entries", book("entries", (77, 1), (NONE, 3), (0, 1), (NONE, 1))),
+    ("pin entries", book("pins", (NONE, 8), (77, 1), (NONE, 15))),
+    ("alter 2 09000000000000000000", "found 3 of 30"),
+    ("entries", book("entries", (77, 1), (NONE, 4), (0, 1))),
+    # an or again, which joins lines 0 and 1 to the output
+    ("alter 2 05020000010000000000", "found 5 of 30"),
+    ("entries", book("entries", (NONE, 2), (0, 1), (NONE, 1), (0, 1), (NONE, 1))),
+    ("pin entries", book("pins", (NONE, 9), (0, 1), (NONE, 6), (1, 1), (NONE, 1), (0, 1), (NONE, 5))),
+    ("alter 1 09000000000000000000", "found 8 of 30"),
+    ("entries", f"entries 1 0 {NONE} 0 1 0"),
+    ("pin entries", book("pins", (NONE, 16), (1, 1), (0, 1), (NONE, 1), (0, 1), (NONE, 4))),
+    ("alter 1 0a000000000000000000", "found 3 of 30"),
+    ("entries", book("entries", (NONE, 2), (0, 1), (NONE, 1), (0, 1), (NONE, 1))),
+    ("pin entries", book("pins", (NONE, 18), (0, 1), (NONE, 5))),
+    # what may not stand in a tie's place, nor a tie elsewhere
+    ("alter 1 00000000000000000000", "refused 10"),
+    ("alter 1 02010100000000000000", "refused 10"),  # not(1), its own line
+    ("alter 1 0b000000000000000000", "refused 10"),
+    ("alter 1 ff000000000000000000", "refused 10"),
+    ("alter 1 09010000000000000000", "refused 10"),
+    ("alter 1 0a010000000000000000", "refused 10"),
+    ("alter 2 0a020000010000000000", "refused 10"),
+    ("alter 2 09030000010000000000", "refused 10"),
+    ("alter 2 09040000010000000000", "refused 10"),
+    ("alter 2 0aff0000000000000000", "refused 10"),
+    ("alter 2 09000100000000000000", "refused 10"),
+    ("alter 2 09000000010000000000", "refused 10"),
+    ("alter 2 0a000000000001000000", "refused 10"),
+    ("alter 2 0a000000000000000001", "refused 10"),
+    ("alter 2 0b020000010000000000", "refused 10"),
+    ("alter 0 09000000000000000000", "refused 10"),
+    ("alter 0 0a000000000000000000", "refused 10"),
+    ("alter 3 09000000000000000000", "refused 6"),
+    ("image", "image " + changed(T, 10, record(TIE1)).hex()),
+    ("alter 1 02010000000000000000", "found 5 of 30"),
+    ("image", "image " + T.hex()),
+    ("lend pins 23", "lent"),
+    ("alter 2 09000000000000000000", "refused 9"),
+    ("alter 2 09010000000000000000", "refused 9"),
+    ("image", "image " + T.hex()),
+]
+
+# on board H line 3 shares its output with line 1 alone, and as a tie with nothing
+TIED_H = [
+    ("alter 3 0a000000000000000000", "found 21 of 40"),
+    ("entries", book("entries", (99, 2), (NONE, 2), (99, 2), (0, 1), (NONE, 1))),
+    ("pin entries", book("pins", (99, 8), (NONE, 8), (99, 8), (NONE, 8))),
+    ("put entry 2 5", "lent"),
+    ("put pin 8 5", "lent"),
+    ("alter 3 09000000000000000000", "found 23 of 40"),
+    ("entries", book("entries", (99, 2), (5, 1), (NONE, 1), (99, 2), (NONE, 1), (0, 1))),
+    ("pin entries", book("pins", (99, 8), (5, 1), (NONE, 7), (99, 8), (NONE, 8))),
+    ("alter 3 03020000010000000000", "found 20 of 40"),  # and(0,1)
+    ("entries", "entries 1 0 3 1 99 99 3 0"),
+    ("pin entries", book("pins", (NONE, 16), (99, 8), (3, 1), (2, 1), (3, 1), (1, 1), (NONE, 4))),
+]
+
+# no gate but ties, and every line an output
+ALL_TIES = image([record(INPUT), record(TIE0), record(TIE1)], [0, 1, 2])
+ON_ALL_TIES = [
+    ("book", "found 4 of 6"),
+    ("entries", f"entries 1 0 {NONE} 0 0 {NONE}"),
+    ("pin book", "found 0 of 24"),
+    ("pin entries", book("pins", (NONE, 24))),
+    ("rows 1 1/1", "filled"),
+    ("show good 0", "row 010001"),
+    ("show faulty 0", "row 010101"),
+    ("judge 1 2/0", "yes"),
+    ("judge 1 2/1", "no"),
+    ("five 0 0 1/1", "drives 1"),
+    ("show good 0", "row 020401"),
+    ("five 0 0 2/0", "drives 1"),
+    ("show good 0", "row 020003"),
+    ("five 0 0 2/1", "drives 0"),
+    ("show good 0", "row 020001"),
+    ("five 1 1 0/0", "drives 1"),
+    ("show good 0", "row 030001"),
+    ("alter 1 01010000000000000000", "found 7 of 30"),  # buffer(0)
+    ("entries", f"entries 1 0 1 0 0 {NONE}"),
+    ("pin entries", book("pins", (NONE, 8), (1, 1), (0, 1), (NONE, 14))),
+]
+
+# input 0, line 1 always 0 and line 2 always 1; then every kind with a leg tied to each, at the first or the second place, and with both
+LEGS = image([record(INPUT), record(TIE0), record(TIE1), record(AND, 0, 1), record(AND, 2, 0), record(NAND, 1, 0), record(NAND, 0, 2), record(OR, 0, 2),
+              record(OR, 1, 0), record(NOR, 2, 0), record(NOR, 0, 1), record(XOR, 0, 1), record(XNOR, 0, 2), record(BUFFER, 1), record(NOT, 1),
+              record(BUFFER, 2), record(NOT, 2), record(AND, 0, 2, 1), record(OR, 0, 1, 2), record(XOR, 1, 2), record(XNOR, 1, 2)], [4, 6, 12, 19])
+ON_LEGS = [
+    ("five 0 0 0/0", "drives 0"),  # x beside each rail
+    ("show good 0", "row 020001000201020102000202020001010000010100"),
+    ("five 1 1 0/0", "drives 3"),  # D beside each rail
+    ("show good 0", "row 030001000301040103000403030001010000010100"),
+    ("five 0 0 2/0", "drives 1"),  # D on the high rail beside x
+    ("show good 0", "row 020003000201020202020202020001030400020304"),
+    ("five 0 0 1/1", "drives 1"),  # D-bar on the low rail beside x
+    ("show good 0", "row 020401020202020102000202020403010002010304"),
+    ("rows 1 2/0", "filled"),
+    ("show good 0", "row 010001000101000101000001010001010000010100"),
+    ("show faulty 0", "row 010000000001010101000001000001000100010001"),
+]
+
+# two ties behind 32 inputs. The first is an output; the last reaches none, so that altering it touches nothing. No pin is there to search for
+TIED_32 = image([record(INPUT)] * 32 + [record(TIE0), record(TIE1)], [31, 32])
+ON_TIED_32 = [
+    ("find 32/1", "0"),
+    ("find 32.0/1", "refused 12"),
+    ("judge 4294967295 32/1", "yes"),
+    ("judge 4294967295 32/0", "no"),
+    ("judge 4294967296 32/1", "refused 8"),
+    ("five 0 0 32/1", "drives 1"),
+    ("show good 30", "row 02020401"),
+    ("alter 33 09000000000000000000", "found 340 of 340"),
+    ("entries", book("entries", (99, 68))),
+    ("alter 33 01012000000000000000", "found 340 of 340"),  # buffer(32)
+    ("find 33.0/2", "refused 7"),
+    ("find 33.1/0", "refused 12"),
+    ("alter 33 0a000000000000000000", "found 340 of 340"),
+    ("pin entries", book("pins", (99, 272))),
+    ("pin book", "found 0 of 272"),
+    ("pin entries", book("pins", (NONE, 272))),
+]
+
 BEFORE_LOAD = [
     ("pin entries", "pins"),
     ("pin book", "refused 1"),
@@ -1144,6 +1558,12 @@ ASKED = [
     ("the largest board", image(LARGEST, range(4032, 4096)), LARGEST_COUNTS, ON_LARGEST),
     ("32 inputs, some of them outputs", OUT_OF_32, "board 32 lines 32 inputs 4 outputs", ON_OUT_OF_32),
     ("all ones of 32", ONES_OF_32, ONES_COUNTS, ON_ONES_OF_32),
+    ("the tie-breaker", RAILS, RAILS_COUNTS, ON_RAILS),
+    ("T", T, T_COUNTS, TIED_T),
+    ("H", make.H, "board 4 lines 2 inputs 2 outputs", TIED_H),
+    ("ties alone", ALL_TIES, "board 3 lines 1 inputs 3 outputs", ON_ALL_TIES),
+    ("tied legs", LEGS, "board 21 lines 1 inputs 4 outputs", ON_LEGS),
+    ("ties behind 32 inputs", TIED_32, "board 34 lines 32 inputs 2 outputs", ON_TIED_32),
 ]
 # searches among all patterns of 32 inputs
 LONG = [
