@@ -8,7 +8,8 @@ It prints how often each answer and each refusal of each command arose, of accep
 touched line, of exclusive-ors of three and four pins each call with a fault there, x on each pin by itself and three pins at 1, of ties
 each call with a fault there and at a leg that they hold, each alteration from and to them, each way in which they are bad, and their
 drawings, of drawings where in a statement they departed from the form, and of boards of over 512 lines and of over 24 inputs each call,
-accepted and refused. It fails where one of these arose fewer than 20 times. Its last line is 'N passed, M failed', where a part of a script counts one.
+accepted and refused. It fails where one of these arose fewer than 20 times. Its last line is 'N passed, M failed', where a part of a
+script counts one.
 """
 import argparse
 import collections

@@ -14,8 +14,9 @@ NEAR_TIES = (
     b"TIE0()\n", b"TIE1()\n", b"T", b"TI", b"TIE", b"TIE0", b"TIE1", b"TIE0(", b"TIE1(", b"TIE0()", b"TIE1()", b"TIE0(n", b"TIE1(n", b"TIE0(n0)\n",
     b"TIE1(n0)\n", b"TIE0(n0, n0)\n", b"TIE1(0)\n", b"TIE0( )\n", b"TIE1(,)\n", b"TIE0 ()\n", b"TIE1() \n", b"TIE0()\r\n", b"TIE1())\n", b"TIE0)\n",
     b"TIE0\n", b"TIE()\n", b"TIE2()\n", b"TIE9()\n", b"TIE00()\n", b"TIE01()\n", b"TIE10()\n", b"TIE11()\n", b"TIE 0()\n", b"TIEO()\n", b"TIED()\n",
-    b"TIE_0()\n", b"TI0()\n", b"TIX()\n", b"TIR()\n", b"TO()\n", b"T0()\n", b"TX()\n", b"tie0()\n", b"Tie1()\n", b"tIE0()\n", b"NTIE0()\n", b"0()\n", b"()\n",
-    b"TIE0[]\n", b"TIE1{}\n", b"TIE0()TIE1()\n", b"TIE0()\n\n", b"AND()\n", b"NOT()\n", b"XNOR()\n", b"BUFF()\n", b"OR(", b"INPUT()\n", b"TIE0(n0", b"TIE1(n0,",
+    b"TIE_0()\n", b"TI0()\n", b"TIX()\n", b"TIR()\n", b"TO()\n", b"T0()\n", b"TX()\n", b"tie0()\n", b"Tie1()\n", b"tIE0()\n", b"NTIE0()\n",
+    b"0()\n", b"()\n", b"TIE0[]\n", b"TIE1{}\n", b"TIE0()TIE1()\n", b"TIE0()\n\n", b"AND()\n", b"NOT()\n", b"XNOR()\n", b"BUFF()\n", b"OR(",
+    b"INPUT()\n", b"TIE0(n0", b"TIE1(n0,",
 )
 # what a place of a drawing looks like, and what it must not be, or may only just be
 SPOILS = (
@@ -31,7 +32,8 @@ SPOILS = (
     *((NUMBER, other) for other in (b"", b"0", b"65535", b"65535", b"65536", b"65536", b"65540", b"66000", b"70000", b"99999", b"100000",
                                     b"655350", b"131072", b"4294967296", b"18446744073709551616", b"065535", b"00", b"01", b"6.5")),
     *((WORD, other) for other in (b"", b"BUF", b"BUFFER", b"NO", b"NOTE", b"AN", b"ANDY", b"NA", b"NANDNAND", b"O", b"ORR", b"NORR", b"X", b"XN",
-                                  b"XAND", b"EXOR", b"TIE0", b"TIE1", b"TIE", b"TIE2", b"TIED", b"TI", b"T", b"tie0", b"TIE00", b"TIE10", b"and", b"Not", b"buff", b"INPUT", b"OUTPUT", b"n0", b"AND NOT")),
+                                  b"XAND", b"EXOR", b"TIE0", b"TIE1", b"TIE", b"TIE2", b"TIED", b"TI", b"T", b"tie0", b"TIE00", b"TIE10",
+                                  b"and", b"Not", b"buff", b"INPUT", b"OUTPUT", b"n0", b"AND NOT")),
     *((BRACKETS, other) for other in (b"()", b"", b"(n0)", b"(n0, n0)", b"(n0, n0, n0, n0, n0)", b"(n0, n0, n0, n0, n0, n0)", b"(n0, n0, n0, n0,",
                                       b"(n0, n1, n0, n1)", b"(n0, n0, n0, n65535)", b"(n0, n0, n0, n65536)", b"(n0,, n0)", b"( )", b"(n0, )")),
     *((GATE, other) for other in NEAR_TIES),
@@ -171,7 +173,8 @@ def several_wrong(rng, board):
     return rng.choice((pins_miscounted, pin_too_high))(rng, pin_too_high(rng, worse))
 
 
-RULES = (no_lines, outputs_miscounted, too_many_lines, too_many_inputs, gate_at_0, pins_miscounted, pin_too_high, pin_too_high, outputs_wrong, several_wrong)
+RULES = (no_lines, outputs_miscounted, too_many_lines, too_many_inputs, gate_at_0, pins_miscounted, pin_too_high, pin_too_high, outputs_wrong,
+         several_wrong)
 FEW_RULES = (no_lines, outputs_miscounted, gate_at_0, pins_miscounted, pin_too_high, outputs_wrong)
 
 

@@ -386,7 +386,7 @@ def bigger_drawings(s):
 
 
 def early_patterns(s):
-    """Boards of over 24 inputs where an early pattern shows every fault that is asked for or touched; and inputs alone or with ties, which have no pins."""
+    """Boards of over 24 inputs where an early pattern shows every fault that is asked for or touched; and inputs and ties, which have no pins."""
     s.load(shapes.early(s.rng))
     for _ in range(3):
         line, stuck = s.rng.randrange(s.board.inputs, s.board.lines), s.stuck()
@@ -768,7 +768,7 @@ def tied_alterations(s):
 
 
 def tied_images(s):
-    """Ties that are bad by their count and by each pin, at line 0 with right and wrong fields, and with an input after them; and kinds over the highest."""
+    """Ties that are bad by their count and by each pin, at line 0 with right and wrong fields, and with an input after them; and kinds over 10."""
     s.board = shapes.tied(s.rng, s.rng.randint(1, 3), 2)
     image, line = s.board.image(), s.rng.randrange(s.board.inputs, s.board.lines)
     at, first = s.board.record_at(line), s.board.record_at(0)
@@ -792,8 +792,8 @@ def tied_drawings(s):
     s.read(text)
     s.write()
     for statement in s.rng.sample(drawings.NEAR_TIES, 24):
-        before, behind = s.rng.choice((b"", b"OUTPUT(n0)\n", b"INPUT(n0)\nOUTPUT(n0)\n", b"INPUT(n0)\nOUTPUT(n1)\n")), s.rng.choice((b"", b"", b"n9", b"\n"))
-        s.read(before + b"n%d = " % before.count(b"INPUT") + statement + behind)
+        before = s.rng.choice((b"", b"OUTPUT(n0)\n", b"INPUT(n0)\nOUTPUT(n0)\n", b"INPUT(n0)\nOUTPUT(n1)\n"))
+        s.read(before + b"n%d = " % before.count(b"INPUT") + statement + s.rng.choice((b"", b"", b"n9", b"\n")))
     for kind, pins in ((make.TIE0, ()), (make.TIE1, ()), shapes.gate(s.rng, 0, 9, s.rng.choice(shapes.PINNED))):
         s.read(drawings.drawing(shapes.Board([(kind, pins), *s.board.records[s.board.inputs:]], [0])))
     last = text.rindex(b"n", 0, text.rindex(b" = "))
@@ -1064,7 +1064,8 @@ def large_drawings(s):
 
 # the parts that every script begins and ends with, and each sort of part between them and how often it comes
 FIRST = (before_load, gate_tables)
-LAST = ((ties, tied_legs, tied_alterations, tied_images, tied_drawings, exclusive_ors) + (few_shared,) * 3 + (refused_drawings, drawing_files, large_drawings, bigger, hall, bigger_books) + (bigger_drawings,) * 2
+LAST = ((ties, tied_legs, tied_alterations, tied_images, tied_drawings, exclusive_ors) + (few_shared,) * 3
+        + (refused_drawings, drawing_files, large_drawings, bigger, hall, bigger_books) + (bigger_drawings,) * 2
         + (early_patterns, early_patterns, many_inputs, bigger))
 PARTS = {
     exhaustive: 6, every_row: 6, largest: 2, many_inputs: 3, bigger: 1, early_patterns: 1, refusals: 8, every_refusal: 5,
