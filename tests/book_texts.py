@@ -18,12 +18,12 @@ record, image = make.record, make.image
 
 
 def random_board(seed, inputs, lines, outputs, fewest_pins=1):
-    """A board with gates of every kind and pin count, or of every kind that has so many pins, on random lower lines."""
+    """A board with gates of every kind and pin count, or of every kind that has so many pins, on random lower lines; with ties where 0 is enough."""
     rng = random.Random(seed)
     records = [record(make.INPUT) for _ in range(inputs)]
     for i in range(inputs, lines):
-        kind = rng.randrange(1 if fewest_pins == 1 else 3, 9)
-        pins = 1 if kind < 3 else rng.randrange(max(2, fewest_pins), 5)
+        kind = rng.randrange(1 if fewest_pins < 2 else 3, 9 if fewest_pins else 11)
+        pins = 0 if kind > 8 else 1 if kind < 3 else rng.randrange(max(2, fewest_pins), 5)
         records.append(record(kind, *(rng.randrange(max(0, i - 24), i) for _ in range(pins))))
     return image(records, sorted(rng.sample(range(lines), outputs)))
 
@@ -37,6 +37,12 @@ CASES = {
     "S": make.S,
     "T": make.T,
     "H": make.H,
+    "rails": make.RAILS,
+    "ties among gates": random_board(7, 6, 80, 9, 0),
+    "ties among 4,096 lines": random_board(70, 2, 4096, 64, 0),
+    "ties alone": image([record(make.INPUT), record(make.TIE0), record(make.TIE1)], [0, 1, 2]),
+    "a tie that reaches no output": image([record(make.INPUT), record(make.TIE1)], [0]),
+    "a tie on two pins": image([record(make.INPUT), record(make.TIE1), record(make.AND, 1, 0, 1)], [2]),
     "10 inputs, 100 lines": random_board(12, 10, 100, 5),
     "513 lines": random_board(512, 5, 513, 64),
     "4,096 lines": random_board(4096, 3, 4096, 64),
@@ -51,6 +57,11 @@ CASES = {
     "a trailer alone": make.T[-12:],
     "4 at 2.3": make.changed(make.T, 24, b"\x02\x00"),
     "5 at 0": make.changed(make.T, 30, b"\x03\x00"),
+    "a tie at line 0": image([record(make.TIE1)], [0]),
+    "a gate at line 0": image([record(make.AND, 0, 0)], [0]),
+    "a tie with a pin": image([record(make.INPUT), record(make.TIE0, 0)], [1]),
+    "an input after a tie": image([record(make.INPUT), record(make.TIE0), record(make.INPUT)], [1]),
+    "kind 11": image([record(make.INPUT), record(11)], [1]),
     "4,097 lines": image([record(make.INPUT)] + [record(make.NOT, 0)] * 4096, [0]),
     "a 33rd input": image([record(make.INPUT)] * 33, [0]),
     "41,356 bytes": bytes(256) + random_board(32, 2, 4096, 64, 4),
@@ -70,6 +81,18 @@ BY_HAND = {
          b"1.0/0 none\n1.0/1 0\n2.0/0 1\n2.0/1 none\n2.1/0 0\n2.1/1 none\npins found 3 of 6\n",
     "H": b"board 4 lines 2 inputs 2 outputs\n0/0 1\n0/1 0\n1/0 2\n1/1 0\n2/0 0\n2/1 1\n3/0 2\n3/1 0\nfound 8 of 8\n"
          b"2.0/0 1\n2.0/1 0\n3.0/0 2\n3.0/1 0\npins found 4 of 4\n",
+    "rails": b"board 8 lines 2 inputs 3 outputs\n0/0 1\n0/1 0\n1/0 2\n1/1 0\n2/0 none\n2/1 0\n3/0 1\n3/1 none\n4/0 2\n4/1 3\n5/0 1\n5/1 0\n"
+             b"6/0 2\n6/1 0\n7/0 1\n7/1 0\nfound 14 of 16\n4.0/0 3\n4.0/1 2\n5.0/0 1\n5.0/1 0\n5.1/0 1\n5.1/1 none\n6.0/0 2\n6.0/1 0\n6.1/0 2\n6.1/1 3\n"
+             b"6.2/0 2\n6.2/1 none\n7.0/0 1\n7.0/1 0\n7.1/0 2\n7.1/1 0\n7.2/0 none\n7.2/1 0\npins found 15 of 18\n",
+    "ties alone": b"board 3 lines 1 inputs 3 outputs\n0/0 1\n0/1 0\n1/0 none\n1/1 0\n2/0 0\n2/1 none\nfound 4 of 6\npins found 0 of 0\n",
+    "a tie that reaches no output": b"board 2 lines 1 inputs 1 outputs\n0/0 1\n0/1 0\n1/0 none\n1/1 none\nfound 2 of 4\npins found 0 of 0\n",
+    "a tie on two pins": b"board 3 lines 1 inputs 1 outputs\n0/0 1\n0/1 0\n1/0 1\n1/1 none\n2/0 1\n2/1 0\nfound 5 of 6\n"
+                         b"2.0/0 1\n2.0/1 none\n2.1/0 1\n2.1/1 0\n2.2/0 1\n2.2/1 none\npins found 4 of 6\n",
+    "a tie at line 0": b"refused 4 at 0.0\n",
+    "a gate at line 0": b"refused 4 at 0.0\n",
+    "a tie with a pin": b"refused 4 at 1.1\n",
+    "an input after a tie": b"refused 4 at 2.0\n",
+    "kind 11": b"refused 4 at 1.0\n",
     "an input that is an output": b"board 1 lines 1 inputs 1 outputs\n0/0 1\n0/1 0\nfound 2 of 2\npins found 0 of 0\n",
     "inputs alone": b"board 5 lines 5 inputs 2 outputs\n0/0 none\n0/1 none\n1/0 2\n1/1 0\n2/0 none\n2/1 none\n3/0 8\n3/1 0\n"
                     b"4/0 none\n4/1 none\nfound 4 of 10\npins found 0 of 0\n",

@@ -16,9 +16,11 @@ import programs
 from shapes import make
 
 OBVIOUS = str(programs.ROOT / "tests/obvious/target/release/obvious")
-# boards of fewer patterns than a word has lanes, of fewer than a block has, of one block and of two, and one of many lines
+# boards of fewer patterns than a word has lanes, of fewer than a block has, of one block and of two, and one of many lines; and the same with ties
 BOARDS = {
-    **{name: getattr(make, name) for name in "STH"},
+    **{name: getattr(make, name) for name in ("S", "T", "H", "RAILS")},
+    **{f"tied, {inputs} inputs, {lines} lines": families.tied(inputs, lines).image()
+       for inputs, lines in ((4, 8), (4, 12), (5, 40), (6, 64), (7, 100), (9, 150), (10, 200), (4, 1500))},
     **{f"random, {inputs} inputs, {lines} lines": families.scattered(inputs, lines).image()
        for inputs, lines in ((4, 12), (5, 40), (6, 64), (7, 100), (9, 150), (10, 200), (10, 512), (4, 1500))},
     **{f"8 inputs: {name}": board.image() for name, board in families.GROUPS["8 inputs"].items()},

@@ -12,7 +12,7 @@ from shapes import INPUT, MOST_INPUTS, MOST_LINES, Board, make
 sys.path.insert(0, str(make.HERE))
 import hall  # noqa: E402
 import parts  # noqa: E402
-from parts import AND, NAND, NOR, NOT, OR, XNOR, XOR, decoded, greater, majority  # noqa: E402
+from parts import AND, NAND, NOR, NOT, OR, TIE0, TIE1, XNOR, XOR, decoded, greater, majority  # noqa: E402
 
 
 class Drawing(parts.Drawing):
@@ -204,6 +204,22 @@ def scattered(inputs, lines, outputs=16):
         records.append((kind, tuple(rng.sample(sorted(pins), count))))
         unread = [i for i in unread if i not in pins] + [line]
     return Board(records, sorted(unread)[-64:])
+
+
+def tied(inputs, lines):
+    """Such a board with some of its gates made ties, and legs of others tied to these; it is not timed."""
+    rng, board = seeded("tied", inputs, lines), scattered(inputs, lines)
+    records, rails = list(board.records), []
+    for line in range(inputs, lines):
+        kind, pins = records[line]
+        if line == inputs or rng.random() < 0.1:
+            kind, pins = rng.choice((TIE0, TIE1)), ()
+        elif rng.random() < 0.4:
+            leg = rng.randrange(len(pins))
+            pins = (*pins[:leg], rng.choice(rails), *pins[leg + 1:])
+        rails += [line] * (pins == ())
+        records[line] = kind, pins
+    return Board(records, board.outputs)
 
 
 def random_board(inputs):

@@ -19,14 +19,19 @@ record, image, changed, drawing = make.record, make.image, make.changed, make.dr
 MOST, SECONDS = 1_048_576, 2
 T_TEXT = b"INPUT(n0)\nOUTPUT(n2)\nn1 = NOT(n0)\nn2 = OR(n0, n1)\n"
 ALL_KINDS = image([record(make.INPUT), record(make.BUFFER, 0), record(make.NOT, 0)]
-                  + [record(kind, *range(pins)) for kind in range(make.AND, make.XNOR + 1) for pins in (2, 3, 4)], range(21))
+                  + [record(kind, *range(pins)) for kind in range(make.AND, make.XNOR + 1) for pins in (2, 3, 4)]
+                  + [record(make.TIE0), record(make.TIE1)], range(23))
 LARGEST = image([record(make.INPUT)] * 32 + [record(make.XNOR, i - 1, i - 2, i - 3, i - 4) for i in range(32, 4096)], range(4032, 4096))
+TIES = image([record(make.INPUT)] + [record(make.TIE0), record(make.TIE1)] * 2047 + [record(make.TIE0)], range(4032, 4096))
 # a text of the form that is as long as may be: 65,537 inputs are 906,408 bytes, and 142,168 bytes of outputs follow
 LONGEST_TEXT = b"".join(b"INPUT(n%d)\n" % i for i in range(65_537)) + b"OUTPUT(n0)\n" * 12_923 + b"OUTPUT(n65535)\n"
 
 # a board's name, its drawing and its image
-PAIRS = [(name, (ROOT / f"boards/{name}.txt").read_bytes(), (ROOT / f"boards/{name}.img").read_bytes()) for name in ("S", "T", "H", "hall")] + [
+PAIRS = [(name, (ROOT / f"boards/{name}.txt").read_bytes(), (ROOT / f"boards/{name}.img").read_bytes()) for name in ("S", "T", "H", "rails", "hall")] + [
     ("T by hand", T_TEXT, make.T),
+    ("ties by hand", b"INPUT(n0)\nOUTPUT(n1)\nOUTPUT(n3)\nn1 = TIE0()\nn2 = TIE1()\nn3 = NAND(n2, n0, n1)\n",
+     image([record(make.INPUT), record(make.TIE0), record(make.TIE1), record(make.NAND, 2, 0, 1)], [1, 3])),
+    ("4,095 ties", drawing(TIES), TIES),
     ("every kind and pin count", drawing(ALL_KINDS), ALL_KINDS),
     ("an input that is the output", b"INPUT(n0)\nOUTPUT(n0)\n", image([record(make.INPUT)], [0])),
 ]
@@ -42,6 +47,15 @@ TEXTS = [
     ("a pin that names its own line", T_TEXT.replace(b"n0, n1", b"n0, n2"), "refused 4 at 2.3"),
     ("an output that is not there", T_TEXT.replace(b"OUTPUT(n2)", b"OUTPUT(n3)"), "refused 5 at 0"),
     ("4,097 lines", drawing(LARGEST) + b"n4096 = NOT(n0)\n", "refused 2"),
+    ("4,097 lines, the last a tie", drawing(TIES) + b"n4096 = TIE1()\n", "refused 2"),
+    ("a tie with a pin", b"INPUT(n0)\nOUTPUT(n1)\nn1 = TIE1(n0)\n", "refused 13 at 31"),
+    ("a tie with a space in its brackets", b"INPUT(n0)\nOUTPUT(n1)\nn1 = TIE0( )\n", "refused 13 at 31"),
+    ("a tie without brackets", b"INPUT(n0)\nOUTPUT(n1)\nn1 = TIE0\n", "refused 13 at 30"),
+    ("TIE2", b"INPUT(n0)\nOUTPUT(n1)\nn1 = TIE2()\n", "refused 13 at 29"),
+    ("a tie without its line feed", b"INPUT(n0)\nOUTPUT(n1)\nn1 = TIE0()", "refused 13 at 32"),
+    ("empty brackets of an and", b"INPUT(n0)\nOUTPUT(n1)\nn1 = AND()\n", "refused 13 at 30"),
+    ("a tie at line 0", b"OUTPUT(n0)\nn0 = TIE1()\n", "refused 4 at 0.0"),
+    ("a gate at line 0", b"OUTPUT(n0)\nn0 = AND(n0)\n", "refused 4 at 0.0"),
     ("a 33rd input", b"".join(b"INPUT(n%d)\n" % i for i in range(33)) + b"OUTPUT(n0)\n", "refused 4 at 32.0"),
     ("the longest text", LONGEST_TEXT, "refused 2"),
     ("the longest text without its last line feed", LONGEST_TEXT[:-1], "refused 13 at 1048575"),
@@ -57,6 +71,10 @@ IMAGES = [
     ("a trailer alone", make.T[-12:], "refused 3"),
     ("4 at 2.3", changed(make.T, 24, b"\x02\x00"), "refused 4 at 2.3"),
     ("5 at 0", changed(make.T, 30, b"\x03\x00"), "refused 5 at 0"),
+    ("a tie at line 0", image([record(make.TIE0)], [0]), "refused 4 at 0.0"),
+    ("a tie with a pin", image([record(make.INPUT), record(make.TIE1, 0)], [1]), "refused 4 at 1.1"),
+    ("an input after a tie", image([record(make.INPUT), record(make.TIE1), record(make.INPUT)], [1]), "refused 4 at 2.0"),
+    ("kind 11", image([record(make.INPUT), record(11)], [1]), "refused 4 at 1.0"),
     ("4,097 lines", image([record(make.INPUT)] + [record(make.NOT, 0)] * 4096, [0]), "refused 2"),
     ("a 33rd input", image([record(make.INPUT)] * 33, [0]), "refused 4 at 32.0"),
     ("41,356 bytes that end in a good image", bytes(41_356 - 44) + make.T, "refused 3"),
