@@ -82,8 +82,8 @@ BY_HAND = {
     "H": b"board 4 lines 2 inputs 2 outputs\n0/0 1\n0/1 0\n1/0 2\n1/1 0\n2/0 0\n2/1 1\n3/0 2\n3/1 0\nfound 8 of 8\n"
          b"2.0/0 1\n2.0/1 0\n3.0/0 2\n3.0/1 0\npins found 4 of 4\n",
     "rails": b"board 8 lines 2 inputs 3 outputs\n0/0 1\n0/1 0\n1/0 2\n1/1 0\n2/0 none\n2/1 0\n3/0 1\n3/1 none\n4/0 2\n4/1 3\n5/0 1\n5/1 0\n"
-             b"6/0 2\n6/1 0\n7/0 1\n7/1 0\nfound 14 of 16\n4.0/0 3\n4.0/1 2\n5.0/0 1\n5.0/1 0\n5.1/0 1\n5.1/1 none\n6.0/0 2\n6.0/1 0\n6.1/0 2\n6.1/1 3\n"
-             b"6.2/0 2\n6.2/1 none\n7.0/0 1\n7.0/1 0\n7.1/0 2\n7.1/1 0\n7.2/0 none\n7.2/1 0\npins found 15 of 18\n",
+             b"6/0 2\n6/1 0\n7/0 1\n7/1 0\nfound 14 of 16\n4.0/0 3\n4.0/1 2\n5.0/0 1\n5.0/1 0\n5.1/0 1\n5.1/1 none\n6.0/0 2\n6.0/1 0\n"
+             b"6.1/0 2\n6.1/1 3\n6.2/0 2\n6.2/1 none\n7.0/0 1\n7.0/1 0\n7.1/0 2\n7.1/1 0\n7.2/0 none\n7.2/1 0\npins found 15 of 18\n",
     "ties alone": b"board 3 lines 1 inputs 3 outputs\n0/0 1\n0/1 0\n1/0 none\n1/1 0\n2/0 0\n2/1 none\nfound 4 of 6\npins found 0 of 0\n",
     "a tie that reaches no output": b"board 2 lines 1 inputs 1 outputs\n0/0 1\n0/1 0\n1/0 none\n1/1 none\nfound 2 of 4\npins found 0 of 0\n",
     "a tie on two pins": b"board 3 lines 1 inputs 1 outputs\n0/0 1\n0/1 0\n1/0 1\n1/1 none\n2/0 1\n2/1 0\nfound 5 of 6\n"
