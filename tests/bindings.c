@@ -1,5 +1,5 @@
 /* The exported calls from C: every refusal on board T, with its number and values and nothing lent changed; the fault's numbers as each call
-   that takes them hears them; both books; exclusive-or of three; drawings. bindings boards
+   that takes them hears them; both books; exclusive-or of three; lines tied to a rail; drawings. bindings boards
    Its last line is 'N passed, M failed'. */
 #include "../bindings/c/fortizembo.h"
 #include "checks.h"
@@ -108,6 +108,14 @@ static void bad_images(void)
     says_of_both(ALL, &r, q, "distance 0x1002C", 3, 0, 0, 0);
     r = with_byte(20, 2);
     says_of_both(ALL, &r, q, "pin 2 of line 2 names line 2", 4, 2, 2, 3);
+    r = with_byte(24, 11);
+    says_of_both(ALL, &r, q, "kind 11", 4, 2, 2, 0);
+    r = with_byte(24, 10);
+    says_of_both(ALL, &r, q, "a tie with two pins", 4, 2, 2, 1);
+    r = with_byte(44, 9);
+    says_of_both(ALL, &r, q, "a tie at line 0", 4, 2, 0, 0);
+    r = with_byte(44, 3);
+    says_of_both(ALL, &r, q, "an and at line 0", 4, 2, 0, 0);
     r = with_byte(14, 3);
     says_of_both(ALL, &r, q, "output line 3 of 3", 5, 1, 0, 0);
     q.line = q.pin = SIZE_MAX;
@@ -218,8 +226,16 @@ static void bad_records(void)
     q.line = 2;
     q.record[0] = 0;
     says(ALTER, &blank, q, "a record of kind 0", 10, 0, 0, 0);
+    q.record[0] = 11;
+    says(ALTER, &blank, q, "a record of kind 11", 10, 0, 0, 0);
     q.record[0] = 9;
-    says(ALTER, &blank, q, "a record of kind 9", 10, 0, 0, 0);
+    says(ALTER, &blank, q, "a tie with two pins", 10, 0, 0, 0);
+    memset(q.record + 1, 0, 9);
+    says(ALTER, &blank, q, "a tie", 0, 0, 0, 0);
+    q.record[9] = 1;
+    says(ALTER, &blank, q, "a tie with an unused pin", 10, 0, 0, 0);
+    q.record[9] = 0, q.line = 0;
+    says(ALTER, &blank, q, "an input altered to a tie", 10, 0, 0, 0);
     q = fine;
     q.record[4] = 2;
     says(ALTER, &blank, q, "a record that names its own line", 10, 0, 0, 0);
@@ -257,6 +273,11 @@ static const turned_away bad_texts[] = {
     {"n0 = NO(n0)\n", 13, 1, 7, 0},
     {"n0 = AND()\n", 13, 1, 9, 0},
     {"n0 = AND(n0, n0, n0, n0, n0)\n", 13, 1, 23, 0},
+    {"n0 = TIE2()\n", 13, 1, 8, 0},
+    {"n0 = TIE0(n0)\n", 13, 1, 10, 0},
+    {"n0 = TIE1()", 13, 1, 11, 0},
+    {"OUTPUT(n0)\nn0 = TIE1()\n", 4, 2, 0, 0},
+    {"OUTPUT(n0)\nn0 = AND(n0)\n", 4, 2, 0, 0},
     {"INPUT(n0)\nOUTPUT(n0)\nn1 = NOT(n0, n0)\n", 4, 2, 1, 1},
     {"INPUT(n0)\nOUTPUT(n0)\nn1 = AND(n0, n0, n0, n65535)\n", 4, 2, 1, 5},
     {"INPUT(n0)\nOUTPUT(n0)\nOUTPUT(n0)\n", 5, 1, 1, 0},
@@ -443,6 +464,54 @@ static void exclusive_or(void)
           "five", "exclusive-or of 1,1,x");
 }
 
+/* Lines of T and H altered to ties and back, by hand. With a tie on T's line 2 nothing else reaches the output, and with one on H's line 3 line 1
+   does not. */
+static void tied_alterations(const board *t, const board *h)
+{
+    static const uint8_t tie_0[10] = {9}, tie_1[10] = {10}, or_0_1[10] = {5, 2, 0, 0, 1};
+    static const uint64_t high[6] = {NONE, NONE, NONE, NONE, 0, NONE}, low[6] = {1, 0, NONE, 0, 1, 0}, or_book[6] = {NONE, NONE, 0, NONE, 0, NONE};
+    static const uint64_t h_book[8] = {99, 99, NONE, NONE, 99, 99, 0, NONE};
+    uint64_t pins[32];
+    board tied = *t;
+    memcpy(tied.bytes + 20, tie_1, 10);
+    memset(pins, 0xFF, sizeof pins);
+    altered(t, 3, 2, tie_1, high, pins, "T, line 2 to a tie");
+    pins[16] = 1, pins[17] = 0, pins[19] = 0;
+    altered(t, 3, 1, tie_0, low, pins, "T, line 1 to a tie");
+    memset(pins, 0xFF, sizeof pins);
+    pins[9] = 0, pins[16] = 1, pins[18] = 0;
+    altered(&tied, 3, 2, or_0_1, or_book, pins, "a tie to or(0,1)");
+    for (unsigned i = 0; i < 32; i++)
+        pins[i] = i / 8 % 2 == 0 ? 99 : NONE;
+    altered(h, 4, 3, tie_1, h_book, pins, "H, line 3 to a tie");
+}
+
+/* The tie-breaker: 2 is always 0 and 3 always 1, and neither has a pin; 5 is and(0,3), 6 and(1,4,3), 7 or(5,6,2), and these are the outputs. */
+static void ties(const board *r)
+{
+    static const uint8_t high[8] = {1, 2, 0, 3, 0, 3, 0, 3}, low[8] = {2, 2, 4, 1, 2, 2, 2, 2}, good[8] = {1, 1, 0, 1, 0, 1, 0, 1};
+    static const uint64_t book[16] = {1, 0, 2, 0, NONE, 0, 1, NONE, 2, 3, 1, 0, 2, 0, 1, 0};
+    uint64_t entries[16], pins[64];
+    uint8_t row[8], faulty[8];
+    for (size_t i = 0; i < 16; i++)
+        check(gives(fortizembo_find(r->bytes, r->length, fortizembo_line_fault(i / 2, i % 2)), book[i]), "find", "a line of the tie-breaker");
+    check(gives(fortizembo_book(r->bytes, r->length, entries, 16), 14) && memcmp(entries, book, sizeof book) == 0, "book", "the tie-breaker");
+    check(gives(fortizembo_pin_book(r->bytes, r->length, pins, 64), 15), "pin_book", "the tie-breaker");
+    for (size_t i = 16; i < 32; i++) {
+        const fortizembo_fault fault = fortizembo_pin_fault(i / 8, i / 2 % 4, i % 2);
+        check(pins[i] == NONE && fortizembo_find(r->bytes, r->length, fault).number == 12, "both", "a pin of a tie");
+        check(fortizembo_judge(r->bytes, r->length, 9, fault).number == 12, "judge", "a pin of a tie, and a bad pattern");
+    }
+    check(gives(fortizembo_find(r->bytes, r->length, fortizembo_pin_fault(6, 2, 0)), 2), "find", "a tied leg at 0");
+    check(gives(fortizembo_find(r->bytes, r->length, fortizembo_pin_fault(6, 2, 1)), NONE), "find", "a tied leg at 1");
+    fortizembo_answer a = fortizembo_rows(r->bytes, r->length, 3, fortizembo_line_fault(3, 0), row, 8, faulty, 8);
+    check(a.number == 0 && memcmp(row, good, 8) == 0 && faulty[3] == 0 && faulty[5] == 0, "rows", "a tie at 0");
+    a = fortizembo_five(r->bytes, r->length, 1, 1, fortizembo_line_fault(3, 0), row, 8);
+    check(gives(a, 2) && memcmp(row, high, 8) == 0, "five", "a tie at 0");
+    a = fortizembo_five(r->bytes, r->length, 0, 0, fortizembo_line_fault(2, 1), row, 8);
+    check(gives(a, 0) && memcmp(row, low, 8) == 0, "five", "a tie at 1 beside x");
+}
+
 typedef fortizembo_answer maker(const uint8_t *, size_t, uint8_t *, size_t);
 
 /* What Read or Write makes of one file in a target as long as it needs, and in one that is longer: the other file, and 9s beyond it. */
@@ -486,8 +555,10 @@ int main(int argc, char **argv)
     const char *folder = argc == 2 ? argv[1] : "boards";
     const board s = load(folder, "S.img"), t = load(folder, "T.img"), h = load(folder, "H.img");
     const board s_text = load(folder, "S.txt"), t_text = load(folder, "T.txt"), h_text = load(folder, "H.txt");
-    if (s.length != 134 || t.length != 44 || h.length != 56 || s_text.length != 199 || t_text.length != 50 || h_text.length != 69) {
-        printf("no boards S, T and H\n");
+    const board rails = load(folder, "rails.img"), rails_text = load(folder, "rails.txt");
+    if (s.length != 134 || t.length != 44 || h.length != 56 || s_text.length != 199 || t_text.length != 50 || h_text.length != 69
+        || rails.length != 98 || rails_text.length != 148) {
+        printf("no boards S, T, H and rails\n");
         return 1;
     }
     memcpy(blank.image + sizeof blank.image - 44, t.bytes, 44);
@@ -508,8 +579,11 @@ int main(int argc, char **argv)
     pin_book_of_t(&t);
     alterations(&t, &h);
     exclusive_or();
+    tied_alterations(&t, &h);
+    ties(&rails);
     drawings(&s, &s_text, "S");
     drawings(&t, &t_text, "T");
     drawings(&h, &h_text, "H");
+    drawings(&rails, &rails_text, "the tie-breaker");
     return ended();
 }

@@ -80,6 +80,15 @@ alter H 3: 0 13
   pins of 2: 1 0 none none none none none none
   pins of 3: 2 0 none none none none none none
 alter H 0: 10
+find rails 2/1: 0 0
+find rails 2/0: 0
+find rails 6.2/0: 0 2
+find rails 3.0/0: 12
+book rails: 0 14
+  book 1 0 2 0 none 0 1 none 2 3 1 0 2 0 1 0
+pin book rails: 0 15
+alter rails 3: 0 10
+  book none none none none none 0 none 1 none none none 0 none 0 none 0
 """
 RUST_EXAMPLE = """\
 check S: Good(Counts { lines: 12, inputs: 4, outputs: 1 })
@@ -104,6 +113,12 @@ n1 = NOT(n0)
 n2 = AND(n0, n1)
 read that: Bytes(44), the same image: true
 read it without its last line feed: Refused(Form(50))
+find rails 2/1: Pattern(0)
+find rails 2/0: Nothing
+find rails 6.2/0: Pattern(2)
+find rails 3.0/0: Refused(Pin)
+books of rails: Entries(14) Entries(15)
+alter rails 3: Entries(10)
 """
 
 

@@ -269,6 +269,46 @@ static void alters(size_t line, uint8_t kind, uint64_t entry, const char *why)
     check(memcmp(&now, &owed, sizeof now) == 0, "alter, image and books", why);
 }
 
+/* The line of the chain that is tied, and what both books of the board of 1 input then owe of a line or of what a pin on it reads: input 0 is still
+   shown by the last line, what lies between it and the tie by nothing, and all from the tie on by any pattern or by none. */
+enum { TIED = 2000 };
+
+static uint64_t tied_entry(uint8_t kind, size_t line, uint8_t stuck)
+{
+    if (line == 0)
+        return stuck == 0;
+    if (line < TIED)
+        return NONE;
+    return stuck == ((kind ^ (line - TIED)) & 1) ? 0 : NONE;
+}
+
+/* Alters a line in the middle of the chain to a tie, kind 9 or 10: the last line alone, which shares no output with it, keeps its entries. */
+static void ties(uint8_t kind)
+{
+    const uint8_t record[10] = {kind}, other = kind == 9;
+    uint64_t count = 0;
+    fresh(LINES, 1);
+    for (size_t i = 0; i < 8 * LINES; i++)
+        now.book[i / 4] = now.pins[i] = 99;
+    owed = now;
+    memcpy(owed.image + NOTE + 10 * TIED, record, 10);
+    for (size_t i = 0; i < 8 * LAST; i++) {
+        owed.book[i / 4] = tied_entry(kind, i / 8, i / 4 % 2);
+        owed.pins[i] = i / 8 > TIED && i % 8 < 2 ? tied_entry(kind, i / 8 - 1, i % 2) : NONE;
+    }
+    for (size_t i = 0; i < 8 * LINES; i++)
+        count += (i < 2 * LINES && owed.book[i] != NONE) + (uint64_t)(owed.pins[i] != NONE);
+    const fortizembo_answer a = fortizembo_alter(now.image, now.length, now.book, 2 * LINES, now.pins, 8 * LINES, TIED, record);
+    check(is(a, 0, 1, count, 0), "alter, the count", "a tie in the chain");
+    check(memcmp(&now, &owed, sizeof now) == 0, "alter, image and books", "a tie in the chain");
+    check(is(fortizembo_find(now.image, now.length, fortizembo_line_fault(TIED, other)), 0, 1, 0, 0), "find", "a tie at the other value");
+    check(is(fortizembo_find(now.image, now.length, fortizembo_line_fault(TIED, !other)), 0, 0, 0, 0), "find", "a tie at its own value");
+    check(is(fortizembo_find(now.image, now.length, fortizembo_pin_fault(TIED, 0, other)), 12, 0, 0, 0), "find", "a pin of a tie");
+    check(is(fortizembo_five(now.image, now.length, 0, 0, fortizembo_line_fault(TIED, other), now.good, LINES), 0, 1, OUTPUTS - 1, 0)
+              && now.good[TIED - 1] == 2 && now.good[TIED] == (other ? 4 : 3) && now.good[LAST] == 2,
+          "five", "a tie beside x");
+}
+
 /* The board's drawing, without its note. */
 static size_t draw(size_t inputs)
 {
@@ -347,6 +387,8 @@ int main(int argc, char **argv)
     books();
     alters(CHAIN_END, 1, UINT32_MAX, "4,294,967,295 is an entry as any other");
     alters(CHAIN_END, 2, NONE, "books of none");
+    ties(9);
+    ties(10);
     drawings();
     return ended();
 }

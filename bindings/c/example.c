@@ -152,6 +152,23 @@ static void board_h(image h)
     say("alter H 0", fortizembo_alter(h.bytes, h.length, book, 8, pins, 32, 0, not_1));
 }
 
+/* The tie-breaker, whose lines 2 and 3 are tied low and high: their faults and those of a leg tied high; its books before and after line 3 is tied
+   low too. */
+static void lines_tied(image r)
+{
+    const uint8_t low[10] = {9, 0, 0, 0, 0, 0, 0, 0, 0, 0};
+    uint64_t book[16], pins[64];
+    say("find rails 2/1", fortizembo_find(r.bytes, r.length, fortizembo_line_fault(2, 1)));
+    say("find rails 2/0", fortizembo_find(r.bytes, r.length, fortizembo_line_fault(2, 0)));
+    say("find rails 6.2/0", fortizembo_find(r.bytes, r.length, fortizembo_pin_fault(6, 2, 0)));
+    say("find rails 3.0/0", fortizembo_find(r.bytes, r.length, fortizembo_pin_fault(3, 0, 0)));
+    say("book rails", fortizembo_book(r.bytes, r.length, book, 16));
+    print_book("book", book, 16);
+    say("pin book rails", fortizembo_pin_book(r.bytes, r.length, pins, 64));
+    say("alter rails 3", fortizembo_alter(r.bytes, r.length, book, 16, pins, 64, 3, low));
+    print_book("book", book, 16);
+}
+
 int main(int argc, char **argv)
 {
     const char *folder = argc > 1 ? argv[1] : "boards";
@@ -160,5 +177,6 @@ int main(int argc, char **argv)
     board_t(load(folder, "T"));
     drawing_of_t(load(folder, "T"));
     board_h(load(folder, "H"));
+    lines_tied(load(folder, "rails"));
     return 0;
 }

@@ -84,7 +84,7 @@ fortizembo_answer fortizembo_book(const uint8_t *image, size_t length, uint64_t 
 fortizembo_answer fortizembo_pin_book(const uint8_t *image, size_t length, uint64_t *book, size_t entries);
 
 /* Alter: puts a record in the image and brings both books up to date, the lines' and the pins'; how many entries of both together are then not
-   none. Refusals 1-5, 6, 9 for either book, 10. */
+   none. A gate may become a tie, kind 9 or 10 with no pins, and a tie a gate. Refusals 1-5, 6, 9 for either book, 10. */
 fortizembo_answer fortizembo_alter(uint8_t *image, size_t length, uint64_t *book, size_t entries, uint64_t *pins, size_t pin_entries, size_t line,
                                    const uint8_t record[10]);
 

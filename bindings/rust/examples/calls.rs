@@ -34,4 +34,14 @@ fn main() {
     print!("{}", String::from_utf8_lossy(&text));
     println!("read that: {:?}, the same image: {}", read(&text, &mut again), again[..] == t[..]);
     println!("read it without its last line feed: {:?}", read(&text[..50], &mut again));
+
+    let mut rails = board("rails");
+    let (mut entries, mut pins) = ([0; 16], [0; 64]);
+    println!("find rails 2/1: {:?}", find(&rails, Fault::Line { line: 2, stuck: 1 }));
+    println!("find rails 2/0: {:?}", find(&rails, Fault::Line { line: 2, stuck: 0 }));
+    println!("find rails 6.2/0: {:?}", find(&rails, Fault::Pin { line: 6, pin: 2, stuck: 0 }));
+    println!("find rails 3.0/0: {:?}", find(&rails, Fault::Pin { line: 3, pin: 0, stuck: 0 }));
+    println!("books of rails: {:?} {:?}", book(&rails, &mut entries), pin_book(&rails, &mut pins));
+    let low = [9, 0, 0, 0, 0, 0, 0, 0, 0, 0];
+    println!("alter rails 3: {:?}", alter(&mut rails, &mut entries, &mut pins, 3, low));
 }

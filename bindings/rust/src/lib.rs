@@ -209,7 +209,8 @@ pub fn pin_book(img: &[u8], entries: &mut [Entry]) -> Counted {
     counted(unsafe { raw::fortizembo_pin_book(img.as_ptr(), img.len(), entries.as_mut_ptr(), entries.len()) })
 }
 
-/// Alter: puts a new record in the image and brings both books up to date, the lines' and the pins'.
+/// Alter: puts a new record in the image and brings both books up to date, the lines' and the pins'. A gate may become a tie, kind 9 or 10
+/// with no pins, and a tie a gate.
 pub fn alter(img: &mut [u8], book: &mut [Entry], pins: &mut [Entry], line: usize, record: [u8; 10]) -> Counted {
     let (i, b, p) = (img.as_mut_ptr(), book.as_mut_ptr(), pins.as_mut_ptr());
     counted(unsafe { raw::fortizembo_alter(i, img.len(), b, book.len(), p, pins.len(), line, record.as_ptr()) })

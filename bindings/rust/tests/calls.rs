@@ -28,6 +28,9 @@ fn pins<const N: usize>(entries: &[(usize, Entry)]) -> [Entry; N] {
 const AND_0_1: [u8; 10] = [3, 2, 0, 0, 1, 0, 0, 0, 0, 0];
 const NOT_0: [u8; 10] = [2, 1, 0, 0, 0, 0, 0, 0, 0, 0];
 const NOT_1: [u8; 10] = [2, 1, 1, 0, 0, 0, 0, 0, 0, 0];
+const OR_0_1: [u8; 10] = [5, 2, 0, 0, 1, 0, 0, 0, 0, 0];
+const TIE_0: [u8; 10] = [9, 0, 0, 0, 0, 0, 0, 0, 0, 0];
+const TIE_1: [u8; 10] = [10, 0, 0, 0, 0, 0, 0, 0, 0, 0];
 
 #[test]
 fn check_counts_lines_inputs_and_outputs() {
@@ -142,6 +145,46 @@ fn exclusive_or_is_odd() {
 }
 
 #[test]
+fn a_tie_has_its_value_and_no_pin() {
+    let (rails, mut row) = (board("rails"), [9; 8]);
+    assert_eq!(check(&rails), Checked::Good(Counts { lines: 8, inputs: 2, outputs: 3 }));
+    assert_eq!([find(&rails, at(2, 0)), find(&rails, at(2, 1))], [Found::Nothing, Found::Pattern(0)]);
+    assert_eq!([find(&rails, at(3, 0)), find(&rails, at(3, 1))], [Found::Pattern(1), Found::Nothing]);
+    assert_eq!([find(&rails, pin_at(6, 2, 0)), find(&rails, pin_at(6, 2, 1))], [Found::Pattern(2), Found::Nothing]);
+    for (line, pin) in [(2, 0), (3, 0), (2, 3), (3, 4), (3, usize::MAX)] {
+        assert_eq!(find(&rails, pin_at(line, pin, 1)), Found::Refused(Refusal::Pin));
+        assert_eq!(judge(&rails, 4, pin_at(line, pin, 1)), Judged::Refused(Refusal::Pin));
+    }
+    assert_eq!(five(&rails, 0, 0, at(2, 1), &mut row), Driven::Count(0));
+    assert_eq!(row, [2, 2, 4, 1, 2, 2, 2, 2]);
+    assert_eq!(five(&rails, 1, 1, at(3, 0), &mut row), Driven::Count(2));
+    assert_eq!(row, [1, 2, 0, 3, 0, 3, 0, 3]);
+}
+
+#[test]
+fn gates_become_ties_and_ties_gates() {
+    let (mut t, mut entries, mut pin_entries) = (board("T"), [7; 6], [7; 24]);
+    assert_eq!(alter(&mut t, &mut entries, &mut pin_entries, 2, TIE_1), Counted::Entries(1));
+    assert_eq!((entries, pin_entries), ([NONE, NONE, NONE, NONE, 0, NONE], [NONE; 24]));
+    assert_eq!(t[20..30], TIE_1);
+    assert_eq!(alter(&mut t, &mut entries, &mut pin_entries, 2, TIE_0), Counted::Entries(1));
+    assert_eq!(entries, [NONE, NONE, NONE, NONE, NONE, 0]);
+    assert_eq!(alter(&mut t, &mut entries, &mut pin_entries, 2, OR_0_1), Counted::Entries(5));
+    assert_eq!(entries, [NONE, NONE, 0, NONE, 0, NONE]);
+    assert_eq!(pin_entries, pins(&[(9, 0), (16, 1), (18, 0)]));
+    let old = t.clone();
+    for (line, record) in [
+        (0, TIE_0),
+        (2, [9, 1, 0, 0, 0, 0, 0, 0, 0, 0]),
+        (2, [10, 0, 0, 0, 0, 0, 0, 0, 1, 0]),
+        (2, [11, 0, 0, 0, 0, 0, 0, 0, 0, 0]),
+    ] {
+        assert_eq!(alter(&mut t, &mut entries, &mut pin_entries, line, record), Counted::Refused(Refusal::Alteration));
+    }
+    assert_eq!((t, entries), (old, [NONE, NONE, 0, NONE, 0, NONE]));
+}
+
+#[test]
 fn books_of_t_and_t_altered() {
     let (mut t, mut entries, mut pin_entries) = (board("T"), [7; 6], [7; 24]);
     assert_eq!(book(&t, &mut entries), Counted::Entries(2));
@@ -186,6 +229,10 @@ fn bad_images_are_refused_by_their_number() {
     assert_eq!(changed(32, 0), Checked::Refused(Refusal::Counts));
     assert_eq!(changed(38, 1), Checked::Refused(Refusal::Distance));
     assert_eq!(changed(24, 2), Checked::Refused(Refusal::Record { line: 2, field: 3 }));
+    assert_eq!(changed(20, 10), Checked::Refused(Refusal::Record { line: 2, field: 1 }));
+    assert_eq!(changed(20, 11), Checked::Refused(Refusal::Record { line: 2, field: 0 }));
+    assert_eq!(changed(0, 9), Checked::Refused(Refusal::Record { line: 0, field: 0 }));
+    assert_eq!(changed(0, 3), Checked::Refused(Refusal::Record { line: 0, field: 0 }));
     assert_eq!(changed(30, 3), Checked::Refused(Refusal::Output(0)));
 }
 
@@ -245,7 +292,7 @@ fn with_nines(made: &[u8], length: usize) -> Vec<u8> {
 
 #[test]
 fn drawings_there_and_back_leave_the_target_beyond() {
-    for (name, text_length, image_length) in [("S", 199, 134), ("T", 50, 44), ("H", 69, 56)] {
+    for (name, text_length, image_length) in [("S", 199, 134), ("T", 50, 44), ("H", 69, 56), ("rails", 148, 98)] {
         let (img, text) = (board(name), sample(&format!("{name}.txt")));
         for beyond in [0, 1, 300] {
             let (mut drawn, mut imaged) = (vec![9; text_length + beyond], vec![9; image_length + beyond]);
@@ -274,6 +321,10 @@ fn bad_texts_are_refused_and_nothing_is_changed() {
         ("OUTPUT(n65536)\n", Refusal::Form(12)),
         ("n0 = NO(n0)\n", Refusal::Form(7)),
         ("n0 = AND(n0, n0, n0, n0, n0)\n", Refusal::Form(23)),
+        ("n0 = TIE2()\n", Refusal::Form(8)),
+        ("n0 = TIE1(n0)\n", Refusal::Form(10)),
+        ("n0 = TIE0()", Refusal::Form(11)),
+        ("OUTPUT(n0)\nn0 = TIE0()\n", Refusal::Record { line: 0, field: 0 }),
         ("INPUT(n0)\nOUTPUT(n0)\nn1 = NOT(n0, n0)\n", Refusal::Record { line: 1, field: 1 }),
         ("INPUT(n0)\nOUTPUT(n0)\nn1 = AND(n0, n1)\n", Refusal::Record { line: 1, field: 3 }),
         ("INPUT(n0)\nOUTPUT(n0)\nOUTPUT(n0)\n", Refusal::Output(1)),
