@@ -1,7 +1,7 @@
 #!/usr/bin/env python3
 """The console `bench` against the independent program: the same scripts through both, every answer compared.
 
-    tests/compare.py                                  60,000 commands, as the gate runs it
+    tests/compare.py                                  60,000 commands or more, as the gate runs it
     tests/compare.py --seed 7 --commands 2000000      millions of commands, from another seed
 
 It prints how often each answer and each refusal of each command arose, of accepted alterations each sort of board, altered line and
