@@ -1,9 +1,8 @@
 -- The board of an accepted image can be drawn: pins and outputs are lines, and inputs have no pins.
-use mathlib.Core.Path.{_≡_, refl, ap, _∙_}
+use mathlib.Core.Path.{_≡_, ap, _∙_}
 use mathlib.Core.Logic.{⊎-elim}
-use mathlib.Core.List.{List, [], _∷_}
+use mathlib.Core.List.{List}
 use Prim.Native.Nat.{ℕ, suc, _+_, _-_, _≤_, _<_}
-use native.Mathlib.Nat.{not-suc-le-zero}
 use native.Mathlib.Omega.{arith}
 use lib.Dec.{eqb, leb, leb→le}
 use lib.ListN.{length}
@@ -11,7 +10,7 @@ use borrow.Author.Tests.{eqb-true, eqb-false}
 use Rattle.board.specs.Limits.{lastKind}
 use Rattle.board.specs.Board.{Board, recordOf, inputs}
 use Rattle.board.specs.Fine.{fewest, most, Fine}
-use Rattle.board.proofs.Lists.{way}
+use Rattle.board.proofs.Lists.{way, empty}
 use Rattle.image.specs.Image.{boardOf}
 use Rattle.image.specs.Refusals.{Accepted}
 use Rattle.image.specs.Inner.{Known}
@@ -33,10 +32,6 @@ tie-bare k l h =
     let j = k - firstTie in
     let e : firstTie + j ≡ k = omega arith in
     rw e at (leb→le (most (firstTie + j)) 0 (at-each (λ i. leb (most (firstTie + i)) 0) 2 tt j (omega arith)))
-
-empty : {A : Type 0} (xs : List A) → length xs ≤ 0 → xs ≡ []
-empty [] h = refl
-empty (x ∷ xs) h = absurd (not-suc-le-zero h)
 
 module _ (b : Board) (fine : Fine b) where
   is-gate : (i : ℕ) → inputs b ≤ i → i < length (b .lines) → 1 ≤ recordOf b i .kind
