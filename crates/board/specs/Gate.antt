@@ -11,8 +11,7 @@ use Rattle.board.specs.declared.Condition.{Condition}
 use Rattle.board.specs.declared.Fault.the-variants.{Line, Pin}
 use Rattle.board.specs.declared.Condition.the-variants.{Sound, Having}
 
--- what each kind from 0 up asks of n pins, of which s are 1: that all are (for a buffer, its one), that some are, that an odd number is; a line
--- that is tied asks nothing
+-- what each kind from 0 up asks of n pins, of which s are 1: that all are (for a buffer, its one), that some are, that an odd number is, or nothing
 unfoldable pub kinds : ℕ → ℕ → List Bool
 kinds n s =
     let all = eqb s n in

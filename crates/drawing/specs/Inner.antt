@@ -123,10 +123,11 @@ abbrev pub Pins : ℕ → List ℕ → Type 0
 Pins zero s = ⊥
 Pins (suc left) s = NumberThen (λ p. PieceThen 3 (pinsTo (suc left)) 0 (λ which v. ((which ≡ 3) × (v ≡ [])) ⊎ ((which ≡ 4) × Pins left v))) s
 
--- what may follow the word of a piece: nothing where it is that of a tie, and else up to four pins
+-- the piece of the first tie's word
 abbrev pub tiePiece : ℕ
 tiePiece = 4 + firstTie
 
+-- what may follow the word of a piece: nothing where it is that of a tie, and else up to four pins
 abbrev pub WordThen : ℕ → List ℕ → Type 0
 WordThen which v = ((tiePiece ≤ which) × (v ≡ [])) ⊎ ((which < tiePiece) × Pins 4 v)
 
