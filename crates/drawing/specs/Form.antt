@@ -8,6 +8,7 @@ use lib.ListN.{length, getD, take, drop}
 use Rattle.board.specs.Lists.{text, _among_}
 use Rattle.board.specs.Limits.{lastKind}
 use Rattle.board.specs.Board.{Record, Board, recordOf, inputs}
+use Rattle.board.specs.Fine.{firstTie}
 use Rattle.text.specs.Text.{form, each}
 
 -- the gate words, by kind
@@ -41,10 +42,6 @@ textOf b = linesText 0 (take (inputs b) (b .lines)) ++ each outputText (b .outs)
 -- outputs and pins may be any numbers up to this one
 abbrev pub lastNumber : ℕ
 lastNumber = 65_535
-
--- from this kind on a line is tied
-abbrev pub firstTie : ℕ
-firstTie = 9
 
 -- what a gate word takes: one to four pins, and of TIE0 and TIE1 none
 pub record Worded (r : Record) : Type 0 where

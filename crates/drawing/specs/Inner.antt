@@ -10,12 +10,13 @@ use Rattle.board.specs.Lists.{text, _among_}
 use Rattle.text.specs.Text.{spelled, decimal, each}
 use Rattle.board.specs.Limits.{mostLines, mostOutputs}
 use Rattle.board.specs.Board.{Record, Board, inputs}
+use Rattle.board.specs.Fine.{firstTie}
 use Rattle.image.specs.Image.{fullDistance}
 use Rattle.image.specs.Refusals.{imageRefusals}
 use Rattle.image.specs.Promise.{Promise}
 use Rattle.image.specs.Calls.{_then_}
 use Rattle.drawing.specs.Calls.{tooShort, making}
-use Rattle.drawing.specs.Form.{inputText, outputText, gateText, textOf, lastNumber, firstTie, Worded, Drawn, Departs}
+use Rattle.drawing.specs.Form.{inputText, outputText, gateText, textOf, lastNumber, Worded, Drawn, Departs}
 use Rattle.drawing.specs.Image.{wordBytes, linesBytes}
 use Rattle.drawing.specs.declared.choose.Choice.{Choice}
 use Rattle.drawing.specs.declared.choose.Choice.the-variants.{Took, Stop}

@@ -1,6 +1,10 @@
 // One statement.
 use crate::choose::Choice;
 use crate::choose::choose;
+use crate::pieces::BEFORE_WORDS;
+use crate::pieces::END;
+use crate::pieces::FIRST_TIE;
+use crate::pieces::FIRST_WORD;
 use crate::pins::Four;
 use crate::pins::NO_PINS;
 use crate::pins::PinFound;
@@ -45,13 +49,6 @@ fn output_at(rest: &[u8], at: usize) -> Line
     }
 }
 
-// The pieces of the words from the first to the last; from the first tie on a word ends its statement.
-const FIRST_WORD: usize = 5;
-
-const FIRST_TIE: usize = 13;
-
-const END: usize = 15;
-
 // Reads a gate's statement on from its word.
 fn gate_at(rest: &[u8], at: usize) -> Line
     requires { ⌜ at ≤ length (now rest) ⌝ }
@@ -63,7 +60,7 @@ fn gate_at(rest: &[u8], at: usize) -> Line
             let next = at + length;
             if FIRST_TIE <= which {
                 return Line::Gate {
-                    kind: which - 4,
+                    kind: which - BEFORE_WORDS,
                     count: 0,
                     pins: NO_PINS,
                     length: next,
@@ -76,7 +73,7 @@ fn gate_at(rest: &[u8], at: usize) -> Line
                     count,
                     length: more,
                 } => Line::Gate {
-                    kind: which - 4,
+                    kind: which - BEFORE_WORDS,
                     count,
                     pins,
                     length: next + more,

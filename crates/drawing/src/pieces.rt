@@ -13,6 +13,15 @@ const FORMS: [u8; 150] =
 
 const LENGTHS: [u8; 15] = [10, 8, 5, 2, 3, 6, 5, 5, 6, 4, 5, 5, 6, 7, 7];
 
+// The pieces behind which the words stand by their kinds; from that of the first tie on a word ends its statement, and there are so many pieces.
+pub const BEFORE_WORDS: usize = 4;
+
+pub const FIRST_WORD: usize = BEFORE_WORDS + 1;
+
+pub const FIRST_TIE: usize = 13;
+
+pub const END: usize = 15;
+
 // The table of forms.
 fn the_forms() -> [u8; 150]
     ensures { λ r. ⌜ r ≡ pieceRows ⌝ }

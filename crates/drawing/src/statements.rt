@@ -1,4 +1,5 @@
 // The statements of a drawing: each made in a buffer of its own, measured, and put into a target.
+use crate::pieces::BEFORE_WORDS;
 use crate::pieces::put_piece;
 use bytes::copy;
 use image::Counts;
@@ -29,8 +30,7 @@ const ROOM: usize = 288;
 // The room that a piece gets.
 const PIECE: usize = 32;
 
-// The pieces: an input, before an output, before a gate, behind the last number, before another pin, and before the word of kind 1. The words of ties
-// end their statements.
+// The pieces: an input, before an output, before a gate, behind the last number, and before another pin.
 const INPUT: usize = 0;
 
 const OUTPUT: usize = 1;
@@ -40,8 +40,6 @@ const GATE: usize = 2;
 const CLOSE: usize = 3;
 
 const NEXT_PIN: usize = 4;
-
-const BEFORE_WORDS: usize = 4;
 
 // Puts a piece behind the first `at` bytes of a buffer, and gives where it ends.
 fn add_piece(which: usize, k: usize, out: &mut [u8], at: usize) -> usize

@@ -11,9 +11,9 @@ use mir.Facts.{and-yes}
 use borrow.Author.Tests.{eqb-false, ltb-true, ltb-false}
 use Rattle.board.specs.Lists.{text, same}
 use Rattle.board.specs.Limits.{lastKind}
+use Rattle.board.specs.Fine.{firstTie}
 use Rattle.board.proofs.Lists.{way, same-is}
 use Rattle.text.specs.Text.{decimal}
-use Rattle.drawing.specs.Form.{firstTie}
 use Rattle.drawing.specs.Inner.{pieceForms, piece, pinsRest, Statement, input, output, gate, section, Sound, an-input, an-output, a-gate, statementText}
 use Rattle.drawing.proofs.Laws.Decimal.{Digits, no-more, one-more, decimal-digits}
 use Rattle.drawing.proofs.Laws.Pieces.{at-each}

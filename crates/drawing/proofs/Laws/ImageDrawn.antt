@@ -7,31 +7,24 @@ use native.Mathlib.Omega.{arith}
 use lib.Dec.{eqb, leb, leb→le}
 use lib.ListN.{length}
 use borrow.Author.Tests.{eqb-true, eqb-false}
-use Rattle.board.specs.Limits.{lastKind}
 use Rattle.board.specs.Board.{Board, recordOf, inputs}
-use Rattle.board.specs.Fine.{fewest, most, Fine}
+use Rattle.board.specs.Fine.{firstTie, fewest, Fine}
 use Rattle.board.proofs.Lists.{way, empty}
 use Rattle.image.specs.Image.{boardOf}
 use Rattle.image.specs.Refusals.{Accepted}
 use Rattle.image.specs.Inner.{Known}
 use Rattle.image.specs.declared.Counts.{Counts}
-use Rattle.image.proofs.Laws.Fine.{accepted-fine, four-used, line-count, output-count}
-use Rattle.drawing.specs.Form.{firstTie, Drawn, textOf}
+use Rattle.image.proofs.Laws.Fine.{tie-bare, accepted-fine, four-used, line-count, output-count}
+use Rattle.drawing.specs.Form.{Drawn, textOf}
 use Rattle.drawing.specs.Statements.{statements}
 use Rattle.drawing.proofs.Laws.Pieces.{at-each}
 use Rattle.drawing.proofs.Laws.WriteText.{leads, leading-few, all-statements}
 
--- every gate but a tie has a pin, and a tie has none: computed over the kinds
+-- every gate but a tie has a pin: computed over the kinds
 gate-pin : (k : ℕ) → 1 ≤ k → k < firstTie → 1 ≤ fewest k
 gate-pin k h l =
     let e : suc (k - 1) ≡ k = omega arith in
     rw e at (leb→le 1 (fewest (suc (k - 1))) (at-each (λ j. leb 1 (fewest (suc j))) 8 tt (k - 1) (omega arith)))
-
-tie-bare : (k : ℕ) → firstTie ≤ k → k ≤ lastKind → most k ≤ 0
-tie-bare k l h =
-    let j = k - firstTie in
-    let e : firstTie + j ≡ k = omega arith in
-    rw e at (leb→le (most (firstTie + j)) 0 (at-each (λ i. leb (most (firstTie + i)) 0) 2 tt j (omega arith)))
 
 module _ (b : Board) (fine : Fine b) where
   is-gate : (i : ℕ) → inputs b ≤ i → i < length (b .lines) → 1 ≤ recordOf b i .kind

@@ -4,7 +4,6 @@ use mathlib.Core.List.{List, [], _++_, append-assoc, append-nil}
 use Prim.Native.Nat.{ℕ, _+_, _-_, _≤_, _<_}
 use native.Mathlib.Nat.{add-assoc}
 use native.Mathlib.Omega.{arith}
-use lib.Dec.{lit≤}
 use lib.ListN.{length, drop, replicate, length-append, length-drop}
 use lib.Seq.{drop-drop}
 use Rattle.board.specs.Board.{Record}
@@ -16,7 +15,7 @@ use Rattle.drawing.specs.declared.pins.Four.{Four}
 use Rattle.drawing.specs.declared.line.Line.{Line}
 use Rattle.drawing.specs.declared.line.Line.the-variants.{Input, Output, Gate, LineStop}
 use Rattle.drawing.proofs.Laws.WriteGate.{input-text}
-use Rattle.drawing.proofs.Laws.Statements.{output-is, gate-is, worded, output-stops, gate-stops, word-behind}
+use Rattle.drawing.proofs.Laws.Statements.{output-is, gate-is, takes-none, takes-some, worded, output-stops, gate-stops, word-behind}
 
 -- a gate's pins behind its word
 module _ (rest : List ℕ) (at which n : ℕ) (room : at ≤ length rest) (chosen : Chosen 5 pieceCount 0 (drop at rest) (Took which n)) where
@@ -30,7 +29,7 @@ module _ (rest : List ℕ) (at which n : ℕ) (room : at ≤ length rest) (chose
   tie-read tied pins holds =
       let kind : which ≡ 4 + (which - 4) = omega (arith, chosen .0) in (
         [],
-        worded which [] (chosen .0) (chosen .1) ((λ low. absurd (omega arith)), (λ high. refl), lit≤ tt, λ p there. absurd there),
+        worded which [] (chosen .0) (chosen .1) (takes-none tied),
         refl,
         holds,
         word-inside,
@@ -48,7 +47,7 @@ module _ (rest : List ℕ) (at which n : ℕ) (room : at ≤ length rest) (chose
       let long = length-drop (at + n) rest in
       let word = word-inside in (
         ps,
-        worded which ps low high ((λ l. has .some-pin), (λ tied. absurd (omega arith)), has .few, has .numbers),
+        worded which ps low high (takes-some no-tie (has .some-pin) (has .few) (has .numbers)),
         has .counts,
         has .holds,
         omega arith,

@@ -92,11 +92,17 @@ list-pins (suc left) (p ∷ q ∷ qs) l few numbers =
 abbrev Taken : ℕ → List ℕ → Type 0
 Taken which ps = (which < tiePiece → 1 ≤ length ps) × (tiePiece ≤ which → ps ≡ []) × (length ps ≤ 4) × ((p : ℕ) → p among ps → p ≤ lastNumber)
 
+pub takes-none : {which : ℕ} → tiePiece ≤ which → Taken which []
+takes-none tied = ((λ low. absurd (omega arith)), (λ high. refl), lit≤ tt, λ p there. absurd there)
+
+pub takes-some : {which : ℕ} {ps : List ℕ} → which < tiePiece → 1 ≤ length ps → length ps ≤ 4 → ((p : ℕ) → p among ps → p ≤ lastNumber) → Taken which ps
+takes-some low some-pin few numbers = ((λ l. some-pin), (λ tied. absurd (omega arith)), few, numbers)
+
 word-list : (which : ℕ) (v : List ℕ) → WordThen which v → (ps : List ℕ) × Taken which ps × (v ≡ pinsRest ps)
 word-list which v =
     ⊎-elim
-    (λ (tied, none). ([], ((λ low. absurd (omega arith)), (λ high. refl), lit≤ tt, λ p there. absurd there), none))
-    (λ (low, pins). let (ps, some-pin, few, numbers, is) = pins-list 4 v pins in (ps, ((λ l. some-pin), (λ high. absurd (omega arith)), few, numbers), is))
+    (λ (tied, none). ([], takes-none tied, none))
+    (λ (low, pins). let (ps, some-pin, few, numbers, is) = pins-list 4 v pins in (ps, takes-some low some-pin few numbers, is))
 
 list-word : (which : ℕ) (ps : List ℕ) → Taken which ps → WordThen which (pinsRest ps)
 list-word which ps (some-pin, none, few, numbers) =

@@ -13,6 +13,7 @@ use lib.Seq.{take-append-add, take-append-le, length-take-le}
 use Rattle.board.specs.Lists.{text, same}
 use Rattle.board.specs.Limits.{lastKind}
 use Rattle.board.specs.Board.{Record, recordOf}
+use Rattle.board.specs.Fine.{firstTie}
 use Rattle.board.proofs.Lists.{way, same-is, build-length, build-at}
 use Rattle.image.specs.Bytes.{byteAt, wordAt}
 use Rattle.image.specs.Image.{lineCount, firstRecord, recordPlace, recordAt, boardOf}
@@ -20,7 +21,7 @@ use Rattle.image.proofs.Laws.Records.{records-at}
 use Rattle.text.specs.Text.{Written, decimal, form, each}
 use Rattle.text.proofs.Laws.Made.{next}
 use Rattle.text.proofs.Laws.Each.{each-at, each-past}
-use Rattle.drawing.specs.Form.{words, inputText, outputText, gateText, firstTie, Worded}
+use Rattle.drawing.specs.Form.{words, inputText, outputText, gateText, Worded}
 use Rattle.drawing.specs.Inner.{pieceForms, piece}
 use Rattle.drawing.proofs.Laws.Pieces.{at-each}
 

@@ -3,21 +3,22 @@
 use mathlib.Core.Path.{_≡_, refl, sym, ap, ap₂, _∙_, fun-ext}
 use mathlib.Core.Logic.{⊎-elim}
 use mathlib.Core.List.{List, [], _∷_, _++_, map}
-use mathlib.Core.Bool.{Bool, true, false, not, cond, _||_}
+use mathlib.Core.Bool.{Bool, true, false, not, cond}
 use Prim.Native.Nat.{ℕ, zero, suc, _+_, _-_, _/_, _%_, _≤_, _<_}
 use native.Mathlib.Nat.{add-zero, zero-add, add-suc, le-of-suc-le-suc, not-suc-le-zero}
 use native.Mathlib.Numerals.{add-one}
 use native.Mathlib.Omega.{arith}
-use lib.Dec.{eqb, ltb, eqb→eq, ltb→lt, eqb·suc-suc}
+use lib.Dec.{eqb, ltb, eqb→eq, eqb·suc-suc}
 use lib.ListN.{length, getD, length-append, List·getD-eq-default, List·getD-map, List·getD-append}
 use lib.Seq.{ext-getD}
-use borrow.Author.Tests.{eqb-true, eqb-false, eq-eqb, ne-eqb, le-ltb}
+use borrow.Author.Tests.{eqb-true, eqb-false, eq-eqb, ne-eqb, ltb-true, ltb-false}
 use Rattle.board.specs.Lists.{somewhere, bit, ones, build}
 use Rattle.board.specs.Limits.{lastKind}
 use Rattle.board.specs.Fine.{most}
 use Rattle.board.specs.Gate.{kinds, asks, gate}
 use Rattle.board.specs.Five.{goodHalf, faultyHalf, pair, fillings, agreed, everyFilling, gate5}
 use Rattle.board.proofs.Lists.{way, somewhere-same, somewhere-map, ones-end, build-length, build-at}
+use Rattle.image.proofs.Laws.Fine.{tie-bare}
 use Rattle.five.specs.Table.{kindOf}
 use Rattle.five.proofs.Laws.Lists.{any-default}
 use Rattle.five.proofs.Laws.Table.{from}
@@ -121,18 +122,19 @@ pin-gate-by k l vs =
     (λ (e : eqb (w % 2) 1 ≡ false). rw e (gate-same (kindOf (w / 2)) (suc k) (λ n s. asks-by k l n s ∙ rw e) vs))
     (way (eqb (w % 2) 1))
 
--- and of no pins that of every kind is: computed over all kinds, and so is which of them have pins
+-- and of no pins that of every kind is: computed over all kinds
 bare-by : ℕ → ℕ → Bool
 unfolding everyFilling kinds
 bare-by k w = eqb (gate5 (suc k) []) (turned w (gate5 (kindOf (w / 2)) []))
 
-abbrev has-way : ℕ → ℕ → Bool
-has-way k w = ltb (most (suc k)) 1 || ltb k (length pinWays)
-
 gate-by : (k : ℕ) → k < length ways → (vs : List ℕ) → length vs ≤ most (suc k) → gate5 (suc k) vs ≡ turned (getD ways k 2) (gate5 (kindOf (getD ways k 2 / 2)) vs)
 unfolding bare-by
 gate-by k l [] few = eqb→eq _ _ (rw zero-add at (from bare-by ways 0 tt k 2 l))
-gate-by k l (v ∷ vs) few = pin-gate-by k (ltb→lt k _ (rw (zero-add, le-ltb (most (suc k)) 1 (omega arith)) at (from has-way ways 0 tt k 2 l))) (v ∷ vs)
+gate-by k l (v ∷ vs) few =
+    ⊎-elim
+    (λ (e : ltb k 8 ≡ true). pin-gate-by k (ltb-true k 8 e) (v ∷ vs))
+    (λ (e : ltb k 8 ≡ false). let tied = ltb-false k 8 e in absurd (omega (arith, few, tie-bare (suc k) (omega arith) (omega arith))))
+    (way (ltb k 8))
 
 pub gate-goes : (kind w v : ℕ) (vs : List ℕ) → 0 < kind → kind ≤ lastKind → length vs ≤ most kind → w ≡ getD ways (kind - 1) 2 → v ≡ gate5 (kindOf (w / 2)) vs
     → turned w v ≡ gate5 kind vs
