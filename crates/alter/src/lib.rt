@@ -1,4 +1,7 @@
 // One gate altered: the record is put in the image, and the touched entries of both books are worked out afresh. Alter.
+
+#![tactic(auto)]
+
 mod marks;
 mod put;
 mod renew;

@@ -1,4 +1,7 @@
 // Each call, with its answer's line, made in a small buffer by a function whose contract says which bytes.
+
+#![tactic(auto)]
+
 ghost use Rattle.std.specs.Prelude.{[], ◌∷◌, ◌+◌, ◌≤◌, length};
 ghost use Rattle.image.specs.Check.{check_promise};
 ghost use Rattle.rows.specs.Rows.{rows_promise};

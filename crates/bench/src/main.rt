@@ -1,4 +1,7 @@
 // The bench console: commands from standard input, one a line, each answered with one line on standard output.
+
+#![tactic(auto)]
+
 mod obey;
 
 ghost use Rattle.std.specs.Prelude.{◌≡◌, ◌<◌, length};
@@ -17,7 +20,7 @@ use ports::write::write_plain;
 use report::rooms::blank_target;
 
 // What was heard at a place: the next place, a line, whether it asks for an answer, and whether there is more to hear.
-#[derive(Drop)]
+#[derive(Clone, Copy)]
 struct Heard {
     at: Place,
     from: usize,

@@ -1,4 +1,7 @@
 // Reads an image from standard input and writes its book as text, or the one line of its refusal: `program_lines` of `report`.
+
+#![tactic(auto)]
+
 ghost use Rattle.std.specs.Prelude.{◌≡◌, ◌*◌, length};
 ghost use Rattle.board.specs.Limits.{most_lines};
 ghost use Rattle.report.specs.Book.{Filled};

@@ -1,4 +1,7 @@
 // The console's commands, each group with what it uses alone.
+
+#![tactic(auto)]
+
 pub mod answer;
 mod help;
 pub mod on_book;

@@ -5,7 +5,7 @@ ghost use Rattle.drawing.specs.Inner.{piece_count, Common, Chosen};
 use crate::pieces::put_piece;
 
 // The piece that a text begins with, and its length; or how many bytes the text shares with one of them at the most.
-#[derive(Drop)]
+#[derive(Clone, Copy)]
 pub enum Choice {
     Took { which: usize, length: usize },
     Stop(usize),

@@ -8,14 +8,14 @@ use crate::stored::{keep_output, keep_record};
 use image::numbers::tail;
 
 // What a text is: the drawing of a board of so many lines and outputs, or a departure from the form behind so many bytes.
-#[derive(Drop)]
+#[derive(Clone, Copy)]
 pub enum Formed {
     Named { lines: usize, outputs: usize },
     DepartsAt(usize),
 }
 
 // How many lines and outputs were read, and the section of the last statement.
-#[derive(Drop)]
+#[derive(Clone, Copy)]
 pub struct Tally {
     pub section: usize,
     pub lines: usize,

@@ -1,4 +1,7 @@
 // Drawings as text: a reader and a writer of the fixed form.
+
+#![tactic(auto)]
+
 mod choose;
 mod form;
 mod line;
@@ -24,7 +27,7 @@ use image::{Checked, Refusal};
 use statements::{put_text, text_length};
 use stored::{finish, image_room, outputs_room};
 
-#[derive(Drop)]
+#[derive(Clone, Copy)]
 pub enum Made {
     Bytes(usize),
     Refused(Refusal),

@@ -8,7 +8,7 @@ use crate::pins::{Four, NO_PINS, PinFound, PinsFound, read_pin, read_pins};
 use image::numbers::tail;
 
 // The statement that a text begins with, and how long it is; or how many bytes of the text can begin one.
-#[derive(Drop)]
+#[derive(Clone, Copy)]
 pub enum Line {
     Input {
         length: usize,

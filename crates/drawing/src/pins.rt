@@ -7,7 +7,7 @@ use crate::number::read_number;
 use image::numbers::tail;
 
 // Four pins, unused ones 0.
-#[derive(Drop)]
+#[derive(Clone, Copy)]
 pub struct Four {
     pub first: usize,
     pub second: usize,
@@ -17,7 +17,7 @@ pub struct Four {
 
 // The pin that a text begins with, how long it is with what stands behind it, and whether that ends the statement or goes on to another pin; or
 // how many bytes of the text can begin one.
-#[derive(Drop)]
+#[derive(Clone, Copy)]
 pub enum PinFound {
     Last { line: usize, length: usize },
     More { line: usize, length: usize },
@@ -25,7 +25,7 @@ pub enum PinFound {
 }
 
 // The pins that a text begins with, how many they are and how long; or how many bytes of the text can begin some.
-#[derive(Drop)]
+#[derive(Clone, Copy)]
 pub enum PinsFound {
     Found {
         pins: Four,

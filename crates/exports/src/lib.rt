@@ -1,4 +1,7 @@
 // The calls for C and Rust: slices and numbers come in, and the numbers of the answer go out. Nothing is asked of an argument.
+
+#![tactic(auto)]
+
 ghost use Rattle.std.specs.Prelude.{◌≡◌, [], ◌∷◌, not, eqb};
 ghost use Rattle.board.specs.declared.Sort.TheVariants.{Lines, Pins};
 ghost use Rattle.image.specs.Check.{check_promise};
@@ -21,7 +24,7 @@ use image::said::{Numbers, with_two};
 // A fault in numbers. Its sort is 0 for a line's and any other number for a pin's, so that no third sort can be named; a line's has no use
 // for the pin.
 #[repr(C)]
-#[derive(Drop)]
+#[derive(Clone, Copy)]
 pub struct FaultNumbers {
     pub line: usize,
     pub pin: usize,

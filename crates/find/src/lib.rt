@@ -1,4 +1,7 @@
 // The smallest pattern that shows a fault, and the books of them all: Find, Book and the pin book.
+
+#![tactic(auto)]
+
 mod blocks;
 pub mod entries;
 pub mod said;
@@ -17,14 +20,14 @@ use image::limits::Entry;
 use image::{Checked, Refusal};
 use search::{Answer, smallest};
 
-#[derive(Drop)]
+#[derive(Clone, Copy)]
 pub enum Found {
     Pattern(u64),
     Nothing,
     Refused(Refusal),
 }
 
-#[derive(Drop)]
+#[derive(Clone, Copy)]
 pub enum Counted {
     Entries(usize),
     Refused(Refusal),

@@ -25,7 +25,7 @@ use reach::number_lines;
 const FEW_LINES: usize = 512;
 
 // What a search finds.
-#[derive(Drop)]
+#[derive(Clone, Copy)]
 pub enum Answer {
     At(Entry),
     Nothing,

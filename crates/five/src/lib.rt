@@ -1,4 +1,7 @@
 // Roth's five values: the row of a fault under a partial pattern, and how many output lines hold D or D-bar.
+
+#![tactic(auto)]
+
 mod count;
 mod fill;
 mod line;
@@ -17,7 +20,7 @@ use image::asked::{check_fault, then_row};
 use image::{Checked, Refusal};
 use partial::then_partial;
 
-#[derive(Drop)]
+#[derive(Clone, Copy)]
 pub enum Driven {
     Count(usize),
     Refused(Refusal),

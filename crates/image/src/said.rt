@@ -7,7 +7,7 @@ use crate::{Checked, Refusal};
 
 // 0 or a refusal's number, how many values are returned beside it, and these, with 0 in the unused places.
 #[repr(C)]
-#[derive(Drop)]
+#[derive(Clone, Copy)]
 pub struct Numbers {
     pub number: u64,
     pub values: u64,

@@ -13,7 +13,7 @@ pub const MOST_PINS: usize = 65536;
 const FRESH_NUMBER: Entry = 99;
 
 // How much is lent of each.
-#[derive(Drop)]
+#[derive(Clone, Copy)]
 pub struct BookLengths {
     pub lines: usize,
     pub pins: usize,

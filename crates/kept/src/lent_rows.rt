@@ -11,7 +11,7 @@ pub const MOST_ROW: usize = 8192;
 const FRESH_BYTE: u8 = 9;
 
 // How much is lent of each.
-#[derive(Drop)]
+#[derive(Clone, Copy)]
 pub struct Lengths {
     pub good: usize,
     pub faulty: usize,

@@ -1,4 +1,7 @@
 // What the console keeps between commands, and the commands that lend or put something.
+
+#![tactic(auto)]
+
 pub mod anew;
 mod brought;
 pub mod lent_book;
@@ -12,7 +15,7 @@ use lent_book::BookLengths;
 use lent_rows::Lengths;
 
 // How much is lent of the image, the rows, the books and the target.
-#[derive(Drop)]
+#[derive(Clone, Copy)]
 pub struct Held {
     pub image: usize,
     pub rows: Lengths,

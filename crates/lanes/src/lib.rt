@@ -1,4 +1,7 @@
 // Five hundred and twelve patterns at once: a line has eight words, and bit j of word w is its value under pattern base + 64 w + j.
+
+#![tactic(auto)]
+
 pub mod eight;
 pub mod fill;
 pub mod flat;

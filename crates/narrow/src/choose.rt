@@ -7,7 +7,7 @@ use image::Counts;
 use image::outputs::output;
 
 // A line, or none, and whether it is an output to be parted by whether it differs.
-#[derive(Drop)]
+#[derive(Clone, Copy)]
 pub struct Choice {
     pub line: usize,
     pub by_output: bool,

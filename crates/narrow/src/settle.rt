@@ -42,7 +42,7 @@ fn drain(
 }
 
 // How many outputs can differ (2: several), and the last of them.
-#[derive(Drop)]
+#[derive(Clone, Copy)]
 pub struct Differing {
     pub count: u8,
     pub last: usize,

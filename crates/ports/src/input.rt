@@ -13,7 +13,7 @@ const TOO_LONG: usize = 200000;
 
 // What is read and not yet answered: the bytes of the buffer from start to end, of which those before seen hold no line feed. Where skips,
 // they belong to a line that was too long.
-#[derive(Drop)]
+#[derive(Clone, Copy)]
 pub struct Place {
     pub start: usize,
     pub seen: usize,
@@ -22,7 +22,7 @@ pub struct Place {
 }
 
 // What a step finds: a line, one that is too long, neither yet, or what stands at the end of the input.
-#[derive(Drop)]
+#[derive(Clone, Copy)]
 pub enum Step {
     Line { from: usize, to: usize, next: Place },
     Long(Place),

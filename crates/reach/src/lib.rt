@@ -1,4 +1,7 @@
 // Which outputs each line reaches, one 64-bit number a line, worked out in one pass from the top line down.
+
+#![tactic(auto)]
+
 ghost use Rattle.std.specs.Prelude.{◌≡◌, ℕ, ◌+◌, ◌≤◌, ◌<◌, ◌^◌, length, get_or, set};
 ghost use Rattle.std.specs.Int.Bits.{bit_or};
 ghost use Rattle.board.specs.Limits.{most_lines};

@@ -1,4 +1,7 @@
 // Reads a drawing from standard input and writes its image, or on standard error the one line of its refusal.
+
+#![tactic(auto)]
+
 use drawing::Made;
 use libc::{STDERR_FILENO, STDIN_FILENO, STDOUT_FILENO};
 use report::input::read_on;

@@ -18,7 +18,7 @@ use image::{Checked, check};
 use text::form::spell;
 
 // What follows for one book: how many lines, how many of its entries are not none, and how many faults of its sort there are.
-#[derive(Drop)]
+#[derive(Clone, Copy)]
 pub struct Rest {
     pub lines: usize,
     pub found: usize,

@@ -1,5 +1,8 @@
 // Sets of pairs of a good and a faulty value, as numbers below 16, and what a gate's step leaves of them. No number is refused: a number
 // that is no set holds nothing.
+
+#![tactic(auto)]
+
 mod rows;
 
 ghost use Rattle.std.specs.Prelude.{◌≡◌, ◌/◌, ◌%◌, ◌<◌};
@@ -31,7 +34,7 @@ pub fn common(s: u8, t: u8) -> u8
 }
 
 // Two parts of a set.
-#[derive(Drop)]
+#[derive(Clone, Copy)]
 pub struct Parts {
     pub one: u8,
     pub other: u8,
@@ -97,7 +100,7 @@ fn turn_row(way: usize) -> u64
 }
 
 // What is left of a pin and of what stands before it.
-#[derive(Drop)]
+#[derive(Clone, Copy)]
 struct Two {
     pin: u8,
     before: u8,
@@ -115,7 +118,7 @@ fn pin_step(o: usize, z: u8, p: u8, x: u8) -> Two
 }
 
 // The sets of a gate's line and its four pins.
-#[derive(Drop)]
+#[derive(Clone, Copy)]
 pub struct Sets5 {
     pub line: u8,
     pub a: u8,
@@ -150,7 +153,7 @@ pub fn gate_step(way: usize, s: Sets5) -> Sets5
 }
 
 // The sets of a gate's line and its two pins.
-#[derive(Drop)]
+#[derive(Clone, Copy)]
 pub struct Sets3 {
     pub line: u8,
     pub a: u8,

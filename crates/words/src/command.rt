@@ -10,7 +10,7 @@ use board::{Fault, Sort};
 use image::numbers::tail;
 
 // Why a line can't be read: it is empty, is no command, has too few or too many words, or a word is not what the command asks for there.
-#[derive(Drop)]
+#[derive(Clone, Copy)]
 pub enum Why {
     Empty,
     Unknown,
@@ -22,7 +22,7 @@ pub enum Why {
 }
 
 // The commands, by what they use; `from` is where the line's last word begins. First those that bring a new image.
-#[derive(Drop)]
+#[derive(Clone, Copy)]
 pub enum Anew {
     Load { from: usize },
     Open { from: usize },
@@ -30,7 +30,7 @@ pub enum Anew {
 }
 
 // Those that use the image alone.
-#[derive(Drop)]
+#[derive(Clone, Copy)]
 pub enum OnImage {
     Save { from: usize },
     Export { from: usize },
@@ -41,7 +41,7 @@ pub enum OnImage {
 }
 
 // Those that use the rows.
-#[derive(Drop)]
+#[derive(Clone, Copy)]
 pub enum OnRows {
     Lend {
         good: u64,
@@ -75,7 +75,7 @@ pub enum OnRows {
 }
 
 // Those that use one book, the line book or the pin book.
-#[derive(Drop)]
+#[derive(Clone, Copy)]
 pub enum OnBook {
     Lend { numbers: u64 },
     Put { place: u64, number: u64 },
@@ -84,7 +84,7 @@ pub enum OnBook {
 }
 
 // Those that use the target.
-#[derive(Drop)]
+#[derive(Clone, Copy)]
 pub enum OnTarget {
     Lend { bytes: u64 },
     Target,
@@ -93,7 +93,7 @@ pub enum OnTarget {
 }
 
 // What a line asks for, or why it can't be read.
-#[derive(Drop)]
+#[derive(Clone, Copy)]
 pub enum Command {
     Anew(Anew),
     OnImage(OnImage),
@@ -106,7 +106,7 @@ pub enum Command {
 }
 
 // What a line's words stand for: words 1, 2 and 3 as numbers, the last as a fault, and where the last begins.
-#[derive(Drop)]
+#[derive(Clone, Copy)]
 pub struct Values {
     pub one: u64,
     pub two: u64,

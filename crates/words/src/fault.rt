@@ -8,7 +8,7 @@ use board::Fault;
 use image::numbers::tail;
 
 // What a word is read as: whether it names a fault, and which, its numbers 0 where there are none.
-#[derive(Drop)]
+#[derive(Clone, Copy)]
 pub struct Named {
     pub is: bool,
     pub fault: Fault,

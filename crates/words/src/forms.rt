@@ -12,7 +12,7 @@ use crate::parts::{is_same, next_start, part_at};
 use crate::sorts::{Sort, is_all};
 
 // How a line suits a form: it has the form, has another name, or has the name and can't be read.
-#[derive(Drop)]
+#[derive(Clone, Copy)]
 pub enum Fit {
     Fits,
     Other,
@@ -20,7 +20,7 @@ pub enum Fit {
 }
 
 // Which form a line has, counted from 0, or why none.
-#[derive(Drop)]
+#[derive(Clone, Copy)]
 pub enum Form {
     At(usize),
     None(Why),

@@ -1,4 +1,7 @@
 // One command line of the bench console: what it asks for.
+
+#![tactic(auto)]
+
 pub mod command;
 mod fault;
 mod forms;

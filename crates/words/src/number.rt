@@ -7,7 +7,7 @@ use crate::parts::part_at;
 use crate::sorts::{Sort, is_all};
 
 // What a word is read as: whether it is a number, and which, 0 where it is none.
-#[derive(Drop)]
+#[derive(Clone, Copy)]
 pub struct Number {
     pub is: bool,
     pub value: u64,

@@ -2,7 +2,7 @@
 ghost use Rattle.std.specs.Prelude.{◌≡◌};
 ghost use Rattle.words.specs.Number.{is_of, is_all};
 
-#[derive(Drop)]
+#[derive(Clone, Copy)]
 pub enum Sort {
     Digit,
     Hex,

@@ -1,4 +1,7 @@
 // Reads an image from standard input and writes its drawing, or on standard error the one line of its refusal.
+
+#![tactic(auto)]
+
 use drawing::Made;
 use libc::{STDERR_FILENO, STDOUT_FILENO};
 use report::input::read_image;
