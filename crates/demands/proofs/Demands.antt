@@ -83,8 +83,8 @@ right_ever_after {s} {old} {book} {said} {oldPins} {pins} {heard} owes e owed f 
 -- one number; so the reader's outcome is settled, as every call's. Reading what was written gives the same image without its note, and
 -- writing what was read gives the same text.
 
-pub departs_at_one-place : (t : List ℕ) (n m : ℕ) → Departs t n → Departs t m → n ≡ m
-departs_at_one-place = departs_one
+pub departs_at_one_place : (t : List ℕ) (n m : ℕ) → Departs t n → Departs t m → n ≡ m
+departs_at_one_place = departs_one
 
 pub reading_settled : (t target : List ℕ) (a b : Made) (left later : List (List ℕ)) → ByReading t (λ is. Owes (read_promise is target) left (made_says a))
     → ByReading t (λ is. Owes (read_promise is target) later (made_says b)) → (a ≡ b) × (left ≡ later)

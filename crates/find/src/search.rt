@@ -10,16 +10,12 @@ ghost use Rattle.image.specs.Inner.{Known, OnBoard};
 ghost use Rattle.find.specs.Inner.{answered, few_lines, SameMarks, Part, Searchable, Spacious, Roomed, Searched};
 
 use crate::blocks::try_block;
-use board::{Fault, Sort, fault_at, site_of};
+use board::{Fault, Sort};
 use image::Counts;
 use image::limits::{Entry, MOST_LINES, NONE};
 use image::numbers::byte;
 use lanes::fill::{MOST_WORDS, make_room};
 use lanes::flat::{MOST_FLAT, decode};
-use narrow::notes::{MOST_NOTES, clear_notes};
-use narrow::search::{MOST_ROWS, smallest as least_of};
-use narrow::ties::find_ties;
-use reach::number_lines;
 
 // The lines that a small board has at most.
 const FEW_LINES: usize = 512;
@@ -57,7 +53,7 @@ fn search(
     first: usize,
     todo: &mut [u8],
     part: &mut [Entry],
-) -> bool
+)
     requires { Searchable sort first img.now flat.now limit rows.old changed.old todo.old (length part.old) }
     ensures { Searched sort first (board_of img.now) limit todo.old part.old part.new }
 {
@@ -65,11 +61,10 @@ fn search(
     while base < limit {
         let end = smaller(base + 512, limit);
         if !try_block(img, flat, base, end, rows, changed, sort, first, todo, part) {
-            return false;
+            return;
         }
         base = end;
     }
-    true
 }
 
 // Marks in a row the lines that are marked in another, none past its end.
@@ -80,55 +75,6 @@ fn take_marks(marks: &[u8], todo: &mut [u8])
     while l < todo.len() {
         todo[l] = (0 < byte(marks, l)) as u8;
         l += 1;
-    }
-}
-
-// How many patterns are tried by blocks before the search narrows: all of a board with few inputs.
-fn first_patterns(inputs: usize) -> u64
-    requires { inputs ≤ most_inputs }
-{
-    if inputs <= 16 {
-        return patterns(inputs);
-    }
-    8192
-}
-
-// Works out the entries of a part that are none, on marked lines.
-fn narrow_rest(
-    img: &[u8],
-    counts: Counts,
-    flat: &[u16],
-    words: &mut [u64],
-    sort: Sort,
-    first: usize,
-    marks: &[u8],
-    part: &mut [Entry],
-) {
-    let lines = counts.lines;
-    let mut rows = [1u8; MOST_ROWS * MOST_LINES];
-    let mut notes = [1u32; MOST_NOTES];
-    let mut ties = [1u16; MOST_LINES];
-    let mut reaches = [0u64; MOST_LINES];
-    clear_notes(&mut notes);
-    number_lines(img, counts, &mut reaches[..lines]);
-    find_ties(img, counts, flat, words, &mut rows, &mut notes, &mut ties);
-    let mut k = 0;
-    while k < part.len() {
-        let fault = fault_at(sort, first + k);
-        if (0 < byte(marks, site_of(fault))) & (part[k] == NONE) {
-            let e = least_of(
-                img,
-                counts,
-                flat,
-                &ties,
-                &reaches[..lines],
-                fault,
-                &mut rows,
-                &mut notes,
-            );
-            part[k] = e;
-        }
-        k += 1;
     }
 }
 
@@ -149,14 +95,10 @@ fn try_in(
     ensures { Searched sort first (board_of img.now) (2 ^ inputsOf (board_of img.now)) marks.now part.old part.new }
 {
     let limit = patterns(counts.inputs);
-    let few = first_patterns(counts.inputs);
     decode(img, counts, flat);
     make_room(img, counts.lines, rows);
     take_marks(marks, todo);
-    let more = search(img, flat, few, rows, changed, sort, first, todo, part);
-    if more & (few < limit) {
-        narrow_rest(img, counts, flat, rows, sort, first, marks, part);
-    }
+    search(img, flat, limit, rows, changed, sort, first, todo, part);
 }
 
 // The same with rows lent that are long enough. Each array is filled once, where it stands, and a long one with 1s: 0s are left to the C

@@ -3,7 +3,7 @@
 use mathlib.Core.Path.{◌≡◌, refl, sym, ap, ◌∙◌}
 use mathlib.Core.Logic.{⊎_elim}
 use mathlib.Core.List.{List, [], ◌∷◌}
-use mathlib.Core.Bool.{Bool, true, false, ◌||◌, ◌&&◌, or_false}
+use mathlib.Core.Bool.{Bool, true, false, ◌||◌, ◌&&◌, or-false}
 use Prim.Native.Nat.{ℕ, zero, suc}
 use lib.Bits.{bit_and}
 use lib.ListN.{length, get_or, take}
@@ -28,7 +28,7 @@ common_met b numbers right a marks is l inside =
 
 -- a row is as it should be where no line is to be marked
 pub still_met : (b : Board) (a : ℕ) (marks : List ℕ) → ((l : ℕ) → meets b a l ≡ false) → Met b a marks marks
-still_met b a marks alone l inside = rw (alone l) (sym (or_false (on (get_or marks l 0))))
+still_met b a marks alone l inside = rw (alone l) (sym (or-false (on (get_or marks l 0))))
 
 -- a line that does not meet itself reaches no output
 pub meets_itself : (b : Board) (a : ℕ) → meets b a a ≡ false → (o : ℕ) → o among b.outs → reach b a o ≡ false

@@ -81,7 +81,7 @@ module _ (b : Board) (low : Low b) (x : ℕ) where
   pub value-bit : (i : ℕ) → value (good x) b i < 2
   value-bit i = rw (value_is (good x) b low i) (good-bit x i (record_of b i).kind (map (value (good x) b) (record_of b i).pins))
 
-  pub faulty-value-bit : (φ : Condition) → stuck φ < 2 → (i : ℕ) → value (faulty φ x) b i < 2
+  faulty-value-bit : (φ : Condition) → stuck φ < 2 → (i : ℕ) → value (faulty φ x) b i < 2
   faulty-value-bit φ h i = rw (value_is (faulty φ x) b low i) (faulty-bit φ h x i (record_of b i).kind (map (value (faulty φ x) b) (record_of b i).pins))
 
   -- a flipped line has the other value
@@ -97,7 +97,7 @@ module _ (b : Board) (low : Low b) (x : ℕ) where
         (omega (arith, ne, flipped_at (site φ), value-bit (site φ), faulty-value-bit φ held (site φ)))
 
     -- a fault that does not change its own line changes none
-    pub is_good : value (good x) b (site φ) ≡ value (faulty φ x) b (site φ) → (i : ℕ) → value (good x) b i ≡ value (faulty φ x) b i
+    is_good : value (good x) b (site φ) ≡ value (faulty φ x) b (site φ) → (i : ℕ) → value (good x) b i ≡ value (faulty φ x) b i
     is_good = same_line b low (good x) (faulty φ x) (site φ) (λ i off. sym (off_line (λ s v. s) φ (good x) i off))
 
     -- a fault shows exactly when it changes its own line and a change of that line is seen

@@ -22,8 +22,8 @@ none_handed to n old = record { long = refl; has = λ l j. (inl, ⊎_elim (λ h.
 
 -- one line more
 module _ (now : List ℕ) (line v : ℕ) (inside : line < length now) where
-  set-has : (l j : ℕ) → HasBit (set now line (bit_or (get_or now line 0) v)) l j ↔ (HasBit now l j ⊎ ((l ≡ line) × (bit_of v j ≡ 1)))
-  set-has l j =
+  set_has : (l j : ℕ) → HasBit (set now line (bit_or (get_or now line 0) v)) l j ↔ (HasBit now l j ⊎ ((l ≡ line) × (bit_of v j ≡ 1)))
+  set_has l j =
       ⊎_elim
       (λ (t : eqb l line ≡ true).
       let same = eqb-true l line t in
@@ -44,12 +44,12 @@ module _ (now : List ℕ) (line v : ℕ) (inside : line < length now) where
           ⊎_elim
           (λ b. ⊎_elim inl (λ w. inr (w.0, omega (arith, w.1), w.2, w.3)) ((so.has l j).0 b))
           (λ w. inr (m, omega arith, w.0 ∙ is, rw gives at w.1))
-          ((set-has l j).0 h)
+          ((set_has l j).0 h)
 
       back : (l j : ℕ) → HasBit old l j ⊎ ((k : ℕ) × (k < m + 1) × (l ≡ to k) × (bit_of (n k) j ≡ 1)) → HasBit (set now line (bit_or (get_or now line 0) v)) l j
-      back l j (inl h) = (set-has l j).1 (inl ((so.has l j).1 (inl h)))
+      back l j (inl h) = (set_has l j).1 (inl ((so.has l j).1 (inl h)))
       back l j (inr (k, few, at, e)) =
-          (set-has l j).1
+          (set_has l j).1
           (⊎_elim
           (λ (t : eqb k m ≡ true). let same = eqb-true k m t in inr (at ∙ rw (same, is), rw (gives, ← same) e))
           (λ (t : eqb k m ≡ false). inl ((so.has l j).1 (inr (k, omega (arith, eqb-false k m t), at, e))))
