@@ -1,3 +1,4 @@
+-- What the part holds so far is what grows behind the bytes before it.
 use Rattle.std.proofs.Common.{◌-◌, length}
 use Rattle.board.specs.Row.{step}
 use Rattle.board.specs.Gate.{faulty}

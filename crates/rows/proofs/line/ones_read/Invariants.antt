@@ -1,3 +1,4 @@
+-- The sum is that of the first j values read.
 use Rattle.std.proofs.Common.{◌≡◌, ◌-◌, ◌*◌, ◌≤◌, ◌++◌, take}
 use Rattle.board.specs.Lists.{ones}
 use Rattle.image.specs.Inner.{pins_at}

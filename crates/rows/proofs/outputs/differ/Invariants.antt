@@ -1,3 +1,4 @@
+-- At no output before j do the rows differ.
 use Rattle.std.proofs.Common.{◌≡◌, ℕ, ◌-◌, ◌≤◌, ◌<◌, false}
 use Rattle.image.specs.Image.{output_at}
 use Rattle.rows.specs.Inner.{apart}

@@ -1,3 +1,4 @@
+-- No byte before i is over 1.
 use Rattle.std.proofs.Common.{◌≡◌, ℕ, ◌-◌, ◌≤◌, ◌<◌, false, ltb, length, get_or}
 use Rattle.rows.proofs.prefix.has_over_one.Given as goal
 
