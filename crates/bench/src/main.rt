@@ -17,7 +17,7 @@ use kept::lent_rows::blank_row;
 use kept::nothing_lent;
 use ports::input::{Place, Step, blank_input, first_place, next_step};
 use ports::write::write_plain;
-use report::rooms::blank_target;
+use report::rooms::{blank_target, large_buffer};
 
 // What was heard at a place: the next place, a line, whether it asks for an answer, and whether there is more to hear.
 #[derive(Clone, Copy)]
@@ -44,11 +44,11 @@ fn onward(at: Place) -> Heard
 }
 
 // Takes one step: finds a line, or reads on.
-fn step(buf: &mut [u8], at: Place) -> Heard
+fn step(rt: &HostRuntime, buf: &mut [u8], at: Place) -> Heard
     requires { (length buf.old ≡ roomy) × Inside roomy at }
     ensures { HeardIn result }
 {
-    match next_step(buf, at) {
+    match next_step(rt, buf, at) {
         Step::Line { from, to, next } => Heard {
             at: next,
             from,
@@ -57,7 +57,7 @@ fn step(buf: &mut [u8], at: Place) -> Heard
             open: true,
         },
         Step::Long(next) => {
-            write_plain(b"? line too long\n");
+            write_plain(rt, b"? line too long\n");
             onward(next)
         }
         Step::More(next) => onward(next),
@@ -72,14 +72,14 @@ fn step(buf: &mut [u8], at: Place) -> Heard
 }
 
 // Takes steps until a line asks for an answer, or the input ends.
-fn listen(buf: &mut [u8], at: Place) -> Heard
+fn listen(rt: &HostRuntime, buf: &mut [u8], at: Place) -> Heard
     requires { (length buf.old ≡ roomy) × Inside roomy at }
     ensures { HeardIn result }
 {
     let mut heard = onward(at);
     let mut turns = u64::MAX;
     while 0 < turns {
-        heard = step(buf, heard.at);
+        heard = step(rt, buf, heard.at);
         if heard.asks | !heard.open {
             return heard;
         }
@@ -98,6 +98,7 @@ fn left(turns: u64, open: bool) -> u64
 
 // Answers each line that is heard.
 fn talk(
+    rt: &HostRuntime,
     buf: &mut [u8],
     img: &mut [u8],
     good: &mut [u8],
@@ -112,28 +113,39 @@ fn talk(
     let mut held = nothing_lent();
     let mut turns = u64::MAX;
     while 0 < turns {
-        let heard = listen(buf, at);
+        let heard = listen(rt, buf, at);
         if !heard.asks {
             return;
         }
         let from = heard.from;
         let to = heard.to;
-        held = obey(&buf[from..to], img, good, faulty, book, pins, target, held);
+        held = obey(
+            rt,
+            &buf[from..to],
+            img,
+            good,
+            faulty,
+            book,
+            pins,
+            target,
+            held,
+        );
         at = heard.at;
         turns = left(turns, heard.open);
     }
 }
 
 // The console, with nothing lent yet.
-fn main() {
+fn main(rt: HostRuntime) {
     let mut buf = blank_input();
-    let mut img = io::large_buffer();
+    let mut img = large_buffer();
     let mut good = blank_row();
     let mut faulty = blank_row();
     let mut book = blank_book();
     let mut pins = blank_pins();
     let mut target = blank_target();
     talk(
+        &rt,
         &mut buf,
         &mut img,
         &mut good,

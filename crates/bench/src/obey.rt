@@ -14,6 +14,7 @@ use words::command::{Command, read};
 
 // Answers a line, and gives what is lent afterwards.
 pub fn obey(
+    rt: &HostRuntime,
     line: &[u8],
     img: &mut [u8],
     good: &mut [u8],
@@ -32,29 +33,36 @@ pub fn obey(
     let t = held.target;
     let command = read(line);
     match command {
-        Command::Anew(asked) => anew(asked, line, img, good, faulty, book, pins, held),
+        Command::Anew(asked) => anew(rt, asked, line, img, good, faulty, book, pins, held),
         Command::OnRows(asked) => Held {
             image: n,
-            rows: on_rows(asked, line, &img[..n], good, faulty, rows),
+            rows: on_rows(rt, asked, line, &img[..n], good, faulty, rows),
             books,
             target: t,
         },
         Command::OnBook(sort, asked) => Held {
             image: n,
             rows,
-            books: on_book(asked, &img[..n], sort, book, pins, books),
+            books: on_book(rt, asked, &img[..n], sort, book, pins, books),
             target: t,
         },
         Command::OnTarget(asked) => Held {
             image: n,
             rows,
             books,
-            target: on_target(asked, line, &img[..n], target, t),
+            target: on_target(rt, asked, line, &img[..n], target, t),
         },
         _ => {
             let b = books.lines;
             let p = books.pins;
-            answer(command, line, &mut img[..n], &mut book[..b], &mut pins[..p]);
+            answer(
+                rt,
+                command,
+                line,
+                &mut img[..n],
+                &mut book[..b],
+                &mut pins[..p],
+            );
             held
         }
     }

@@ -8,6 +8,7 @@ use words::command::Command;
 
 // Answers such a command, on the image and the books, as much as is lent of them.
 pub fn answer(
+    rt: &HostRuntime,
     command: Command,
     line: &[u8],
     img: &mut [u8],
@@ -15,9 +16,16 @@ pub fn answer(
     pins: &mut [Entry],
 ) {
     match command {
-        Command::OnImage(asked) => on_image(asked, line, img),
-        Command::Alter { line: gate, from } => write_alter(tail(line, from), gate, img, book, pins),
-        Command::Unread(why) => write_reason(why),
-        _ => write_help(),
+        Command::OnImage(asked) => on_image(rt, asked, line, img),
+        Command::Alter { line: gate, from } => write_alter(
+            rt,
+            tail(line, from),
+            gate,
+            img,
+            book,
+            pins,
+        ),
+        Command::Unread(why) => write_reason(rt, why),
+        _ => write_help(rt),
     }
 }

@@ -3,21 +3,22 @@ use ports::write::write_plain;
 use words::command::Why;
 
 // help: the commands, on one line.
-pub fn write_help() {
+pub fn write_help(rt: &HostRuntime) {
     write_plain(
+        rt,
         b"load HEX, open PATH, import PATH, save PATH, export PATH, image, lend rows G F, lend book N, put good HEX, put faulty HEX, put entry K NUMBER, lend pins N, put pin K NUMBER, check, rows PATTERN FAULT, judge PATTERN FAULT, find FAULT, book, pin book, alter LINE HEX, refresh LINE PATTERN, five NAMED VALUES FAULT, show good FROM, show faulty FROM, entries, pin entries, lend target N, target, read HEX, write, help; FAULT is LINE/STUCK or LINE.PIN/STUCK\n",
     );
 }
 
 // Why a line is no command.
-pub fn write_reason(why: Why) {
+pub fn write_reason(rt: &HostRuntime, why: Why) {
     match why {
-        Why::Empty => write_plain(b"? empty line\n"),
-        Why::Unknown => write_plain(b"? no such command\n"),
-        Why::Words => write_plain(b"? too few or too many words\n"),
-        Why::Number => write_plain(b"? not a number of 64 bits\n"),
-        Why::Fault => write_plain(b"? not a fault, as 4/0 or 4.0/1\n"),
-        Why::Hex => write_plain(b"? not HEX\n"),
-        Why::Path => write_plain(b"? not a path\n"),
+        Why::Empty => write_plain(rt, b"? empty line\n"),
+        Why::Unknown => write_plain(rt, b"? no such command\n"),
+        Why::Words => write_plain(rt, b"? too few or too many words\n"),
+        Why::Number => write_plain(rt, b"? not a number of 64 bits\n"),
+        Why::Fault => write_plain(rt, b"? not a fault, as 4/0 or 4.0/1\n"),
+        Why::Hex => write_plain(rt, b"? not HEX\n"),
+        Why::Path => write_plain(rt, b"? not a path\n"),
     }
 }

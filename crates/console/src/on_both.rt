@@ -15,14 +15,21 @@ fn blank_record() -> [u8; 10]
 }
 
 // alter: the HEX word is the record.
-pub fn write_alter(word: &[u8], line: u64, img: &mut [u8], book: &mut [Entry], pins: &mut [Entry]) {
+pub fn write_alter(
+    rt: &HostRuntime,
+    word: &[u8],
+    line: u64,
+    img: &mut [u8],
+    book: &mut [Entry],
+    pins: &mut [Entry],
+) {
     if bytes_of(word) != 10 {
-        write_plain(b"? a record is 10 bytes\n");
+        write_plain(rt, b"? a record is 10 bytes\n");
         return;
     }
     let mut record = blank_record();
     unpack(word, &mut record);
     let mut out = blank_line();
     let n = alter_answer(img, book, pins, line as usize, record, &mut out);
-    write_out(&out, n);
+    write_out(rt, &out, n);
 }

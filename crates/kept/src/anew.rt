@@ -27,14 +27,15 @@ fn lines_of(img: &[u8]) -> usize
 }
 
 // Writes Check's answer.
-fn write_check(img: &[u8]) {
+fn write_check(rt: &HostRuntime, img: &[u8]) {
     let mut out = blank_line();
     let n = check_answer(img, &mut out);
-    write_out(&out, n);
+    write_out(rt, &out, n);
 }
 
 // Lends fresh rows and fresh books for the image of n bytes, and answers as Check does; the target stays as it is.
 fn take_image(
+    rt: &HostRuntime,
     n: usize,
     img: &[u8],
     good: &mut [u8],
@@ -53,7 +54,7 @@ fn take_image(
     freshen_row(&mut faulty[..lines]);
     freshen_book(&mut book[..entries]);
     freshen_book(&mut pins[..pin_entries]);
-    write_check(&img[..n]);
+    write_check(rt, &img[..n]);
     Held {
         image: n,
         rows: Lengths {
@@ -70,6 +71,7 @@ fn take_image(
 
 // The command's image, and what is lent for it; where it brings none, nothing changes.
 pub fn anew(
+    rt: &HostRuntime,
     asked: Anew,
     line: &[u8],
     img: &mut [u8],
@@ -82,9 +84,9 @@ pub fn anew(
     requires { Arrays img.old good.old faulty.old book.old pins.old × Within held }
     ensures { Within result }
 {
-    let n = bring_image(asked, line, img);
+    let n = bring_image(rt, asked, line, img);
     if MOST_IMAGE < n {
         return held;
     }
-    take_image(n, img, good, faulty, book, pins, held.target)
+    take_image(rt, n, img, good, faulty, book, pins, held.target)
 }

@@ -3,14 +3,13 @@ ghost use Rattle.std.specs.Prelude.{◌≡◌, ◌+◌, ◌≤◌, ◌<◌, leng
 ghost use Rattle.kept.specs.Kept.{most_image};
 
 use crate::word::put_word;
-use bytes::copy;
 use drawing::Made;
 use image::numbers::tail;
-use libc::STDOUT_FILENO;
 use ports::files::read_file;
 use ports::write::write_plain;
 use report::output::write_refusal;
 use report::rooms::blank_text;
+use spans::copy;
 use words::command::Anew;
 
 // The longest image that the console keeps, and one byte more, by which a longer one is told.
@@ -26,55 +25,55 @@ fn blank_room() -> [u8; IMAGE_ROOM]
 }
 
 // Reads a file, and gives how many bytes came; all of the room's where it can't be read or is larger, and that is answered.
-fn open(path: &[u8], room: &mut [u8]) -> usize
+fn open(rt: &HostRuntime, path: &[u8], room: &mut [u8]) -> usize
     ensures { result ≤ length room.old }
 {
-    let n = read_file(path, room);
+    let n = read_file(rt, path, room);
     if n == room.len() {
-        write_plain(b"? cannot read\n");
+        write_plain(rt, b"? cannot read\n");
     }
     n
 }
 
 // Puts the image that a text names in front of the room, and gives its length; all of the room's where the text is refused, and that is answered.
-fn make_image(text: &[u8], room: &mut [u8]) -> usize {
+fn make_image(rt: &HostRuntime, text: &[u8], room: &mut [u8]) -> usize {
     match drawing::read(text, room) {
         Made::Bytes(n) => n,
         Made::Refused(r) => {
-            write_refusal(STDOUT_FILENO, r);
+            write_refusal(&mut rt.stdout(), r);
             room.len()
         }
     }
 }
 
 // The same of the text in a file.
-fn import(path: &[u8], room: &mut [u8]) -> usize {
+fn import(rt: &HostRuntime, path: &[u8], room: &mut [u8]) -> usize {
     let mut text = blank_text();
-    let n = open(path, &mut text);
+    let n = open(rt, path, &mut text);
     if n == text.len() {
         return room.len();
     }
-    make_image(&text[..n], room)
+    make_image(rt, &text[..n], room)
 }
 
 // Puts what a command brings in front of the room, and gives how many bytes; more than the longest image has where it brings none.
-fn bring(asked: Anew, line: &[u8], room: &mut [u8]) -> usize
+fn bring(rt: &HostRuntime, asked: Anew, line: &[u8], room: &mut [u8]) -> usize
     requires { most_image ≤ length room.old }
 {
     match asked {
-        Anew::Load { from } => put_word(tail(line, from), &mut room[..MOST_IMAGE]),
-        Anew::Open { from } => open(tail(line, from), room),
-        Anew::Import { from } => import(tail(line, from), room),
+        Anew::Load { from } => put_word(rt, tail(line, from), &mut room[..MOST_IMAGE]),
+        Anew::Open { from } => open(rt, tail(line, from), room),
+        Anew::Import { from } => import(rt, tail(line, from), room),
     }
 }
 
 // Puts what a command brings in the image's array, and gives how many bytes; where they are more than the longest image has, nothing changes.
-pub fn bring_image(asked: Anew, line: &[u8], img: &mut [u8]) -> usize
+pub fn bring_image(rt: &HostRuntime, asked: Anew, line: &[u8], img: &mut [u8]) -> usize
     requires { length img.old ≡ most_image }
     ensures { most_image < result → img.new ≡ img.old }
 {
     let mut room = blank_room();
-    let n = bring(asked, line, &mut room);
+    let n = bring(rt, asked, line, &mut room);
     if n <= MOST_IMAGE {
         copy(&room[..n], img);
     }

@@ -44,15 +44,15 @@ pub fn freshen_book(book: &mut [Entry])
 }
 
 // lend book and lend pins: a fresh book of that length in an array. Gives its length, which is the old one where it is too long.
-pub fn lend_book(numbers: u64, book: &mut [Entry], old: usize) -> usize
+pub fn lend_book(rt: &HostRuntime, numbers: u64, book: &mut [Entry], old: usize) -> usize
     ensures { LendLeaves fresh_number numbers old book.old result book.new }
 {
     let n = numbers as usize;
     if book.len() < n {
-        write_plain(b"? too many\n");
+        write_plain(rt, b"? too many\n");
         return old;
     }
     freshen_book(&mut book[..n]);
-    write_plain(b"lent\n");
+    write_plain(rt, b"lent\n");
     n
 }

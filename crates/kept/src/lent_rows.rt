@@ -36,19 +36,26 @@ pub fn freshen_row(row: &mut [u8])
 }
 
 // lend rows: two fresh rows of these lengths.
-pub fn lend_rows(g: u64, f: u64, good: &mut [u8], faulty: &mut [u8], old: Lengths) -> Lengths
+pub fn lend_rows(
+    rt: &HostRuntime,
+    g: u64,
+    f: u64,
+    good: &mut [u8],
+    faulty: &mut [u8],
+    old: Lengths,
+) -> Lengths
     requires { (length good.old ≡ most_row) × (length faulty.old ≡ most_row) }
     ensures { LendRowsLeaves g f old good.old faulty.old result good.new faulty.new }
 {
     let good_end = g as usize;
     let faulty_end = f as usize;
     if (MOST_ROW < good_end) | (MOST_ROW < faulty_end) {
-        write_plain(b"? too many\n");
+        write_plain(rt, b"? too many\n");
         return old;
     }
     freshen_row(&mut good[..good_end]);
     freshen_row(&mut faulty[..faulty_end]);
-    write_plain(b"lent\n");
+    write_plain(rt, b"lent\n");
     Lengths {
         good: good_end,
         faulty: faulty_end,
@@ -56,14 +63,14 @@ pub fn lend_rows(g: u64, f: u64, good: &mut [u8], faulty: &mut [u8], old: Length
 }
 
 // put good and put faulty: a row becomes a HEX word's bytes. Gives its length, which is the old one where they are too many.
-pub fn put_row(word: &[u8], row: &mut [u8], old: usize) -> usize
+pub fn put_row(rt: &HostRuntime, word: &[u8], row: &mut [u8], old: usize) -> usize
     requires { length row.old ≡ most_row }
     ensures { PutRowLeaves word.now row.old old result row.new }
 {
-    let n = put_word(word, row);
+    let n = put_word(rt, word, row);
     if MOST_ROW < n {
         return old;
     }
-    write_plain(b"lent\n");
+    write_plain(rt, b"lent\n");
     n
 }

@@ -1,45 +1,49 @@
-// Files by name.
+// Files by name. A name that is no UTF-8 text names no file.
 ghost use Rattle.std.specs.Prelude.{◌≤◌, length};
 
+use std::fs::File;
+use std::io::{Read, Write};
+use std::{fs, str};
+
 // Reads an open file to its end, or until the buffer is full, and gives how many bytes came; all of the buffer's where a read fails.
-fn read_all(file: i32, room: &mut [u8]) -> usize
+fn read_all(file: &mut File, room: &mut [u8]) -> usize
     ensures { result ≤ length room.old }
 {
     let mut n = 0;
     while n < room.len() {
-        let got = libc::read(file, &mut room[n..]);
-        if got < 0 {
-            return room.len();
+        match file.read(&mut room[n..]) {
+            Ok(more) => {
+                if more == 0 {
+                    return n;
+                }
+                n += more;
+            }
+            Err(_) => return room.len(),
         }
-        let more = io::count(got, &room[n..]);
-        if more == 0 {
-            return n;
-        }
-        n += more;
     }
     n
 }
 
 // Reads a file, and gives how many bytes came; all of the buffer's where it can't be read, as where it fills the buffer.
-pub fn read_file(path: &[u8], room: &mut [u8]) -> usize
+pub fn read_file(rt: &HostRuntime, path: &[u8], room: &mut [u8]) -> usize
     ensures { result ≤ length room.old }
 {
-    let file = os::open_read(path);
-    if file < 0 {
+    let Ok(name) = str::from_utf8(path) else {
         return room.len();
+    };
+    match fs::open(rt, name) {
+        Ok(mut file) => read_all(&mut file, room),
+        Err(_) => room.len(),
     }
-    let n = read_all(file, room);
-    libc::close(file);
-    n
 }
 
 // Writes bytes to a file, and says whether all were written.
-pub fn write_file(path: &[u8], bytes: &[u8]) -> bool {
-    let file = os::open_overwrite(path);
-    if file < 0 {
+pub fn write_file(rt: &HostRuntime, path: &[u8], bytes: &[u8]) -> bool {
+    let Ok(name) = str::from_utf8(path) else {
         return false;
+    };
+    match fs::create(rt, name) {
+        Ok(mut file) => file.write_all(bytes).is_ok(),
+        Err(_) => false,
     }
-    let whole = io::write_all(file, bytes);
-    let closed = libc::close(file);
-    whole & (closed == 0)
 }

@@ -2,8 +2,8 @@
 ghost use Rattle.std.specs.Prelude.{◌≡◌, ◌≤◌, ◌<◌, length};
 ghost use Rattle.ports.specs.Input.{Inside, Stepped, roomy};
 
-use bytes::scan::find;
-use libc::STDIN_FILENO;
+use spans::find;
+use std::io::Read;
 
 // How much is read before it is brought down.
 const ROOMY: usize = 262144;
@@ -84,20 +84,22 @@ fn bring_down(buf: &mut [u8], start: usize, end: usize)
     }
 }
 
-// Reads once, and gives how many bytes came.
-fn read_some(buf: &mut [u8]) -> usize
+// Reads once, and gives how many bytes came: none where that fails.
+fn read_some(rt: &HostRuntime, buf: &mut [u8]) -> usize
     ensures { result ≤ length buf.old }
 {
-    let got = libc::read(STDIN_FILENO, buf);
-    io::count(got, buf)
+    match rt.stdin().read(buf) {
+        Ok(n) => n,
+        Err(_) => 0,
+    }
 }
 
 // Reads on behind the bytes from start to end.
-fn read_behind(buf: &mut [u8], start: usize, end: usize, skips: bool) -> Step
+fn read_behind(rt: &HostRuntime, buf: &mut [u8], start: usize, end: usize, skips: bool) -> Step
     requires { (length buf.old ≡ roomy) × (start ≤ end) × (end ≤ roomy) }
     ensures { Stepped roomy result }
 {
-    let n = read_some(&mut buf[end..]);
+    let n = read_some(rt, &mut buf[end..]);
     if n == 0 {
         return Step::Last {
             from: start,
@@ -113,19 +115,19 @@ fn read_behind(buf: &mut [u8], start: usize, end: usize, skips: bool) -> Step
 }
 
 // The same, after bringing them to the front where the buffer is full.
-fn read_on(buf: &mut [u8], start: usize, end: usize, skips: bool) -> Step
+fn read_on(rt: &HostRuntime, buf: &mut [u8], start: usize, end: usize, skips: bool) -> Step
     requires { (length buf.old ≡ roomy) × (start ≤ end) × (end ≤ roomy) }
     ensures { Stepped roomy result }
 {
     if end < buf.len() {
-        return read_behind(buf, start, end, skips);
+        return read_behind(rt, buf, start, end, skips);
     }
     bring_down(buf, start, end);
-    read_behind(buf, 0, end - start, skips)
+    read_behind(rt, buf, 0, end - start, skips)
 }
 
 // Looks for the end of a line in what is read, and reads on where there is none.
-pub fn next_step(buf: &mut [u8], at: Place) -> Step
+pub fn next_step(rt: &HostRuntime, buf: &mut [u8], at: Place) -> Step
     requires { (length buf.old ≡ roomy) × Inside roomy at }
     ensures { Stepped roomy result }
 {
@@ -136,7 +138,7 @@ pub fn next_step(buf: &mut [u8], at: Place) -> Step
         return ended(at, k);
     }
     if at.skips {
-        return read_on(buf, end, end, true);
+        return read_on(rt, buf, end, end, true);
     }
     if TOO_LONG <= end - at.start {
         return Step::Long(Place {
@@ -146,5 +148,5 @@ pub fn next_step(buf: &mut [u8], at: Place) -> Step
             skips: true,
         });
     }
-    read_on(buf, at.start, end, false)
+    read_on(rt, buf, at.start, end, false)
 }

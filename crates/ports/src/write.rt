@@ -1,8 +1,8 @@
 // Answers on standard output. A long one is written in pieces.
-ghost use Rattle.std.specs.Prelude.{◌*◌, ◌-◌, ◌≤◌, ◌<◌, length};
+ghost use Rattle.std.specs.Prelude.{◌≡◌, ◌*◌, ◌-◌, ◌≤◌, ◌<◌, length};
 
 use image::limits::Entry;
-use libc::STDOUT_FILENO;
+use std::io::Write;
 use text::hex::hex_text;
 use text::numbers::numbers_text;
 
@@ -11,16 +11,25 @@ const MOST_BYTES: usize = 2048;
 
 const MOST_NUMBERS: usize = 128;
 
-// Writes bytes as they stand.
-pub fn write_plain(bytes: &[u8]) {
-    io::write_all(STDOUT_FILENO, bytes);
+// Room for a piece.
+const PIECE: usize = 4096;
+
+fn blank_piece() -> [u8; PIECE]
+    ensures { 4096 ≡ length result }
+{
+    [0u8; PIECE]
+}
+
+// Writes bytes as they stand. What can't be written is lost.
+pub fn write_plain(rt: &HostRuntime, bytes: &[u8]) {
+    let _ = rt.stdout().write_all(bytes);
 }
 
 // Writes the first n bytes of a buffer.
-pub fn write_out(out: &[u8], n: usize)
+pub fn write_out(rt: &HostRuntime, out: &[u8], n: usize)
     requires { n ≤ length out.now }
 {
-    io::write_all(STDOUT_FILENO, &out[..n]);
+    write_plain(rt, &out[..n]);
 }
 
 // Where the piece of at most size that begins at a place ends.
@@ -32,56 +41,56 @@ fn piece_end(at: usize, size: usize, all: usize) -> usize
 }
 
 // Writes a word, a space and bytes as HEX, - for none.
-pub fn write_hex(word: &[u8], bytes: &[u8]) {
-    write_plain(word);
+pub fn write_hex(rt: &HostRuntime, word: &[u8], bytes: &[u8]) {
+    write_plain(rt, word);
     if bytes.len() == 0 {
-        write_plain(b"-");
+        write_plain(rt, b"-");
     }
-    write_digits(bytes);
-    write_plain(b"\n");
+    write_digits(rt, bytes);
+    write_plain(rt, b"\n");
 }
 
 // Writes the digits of bytes.
-fn write_digits(bytes: &[u8]) {
+fn write_digits(rt: &HostRuntime, bytes: &[u8]) {
     let mut at = 0;
     while at < bytes.len() {
         let end = piece_end(at, MOST_BYTES, bytes.len());
-        write_few_digits(&bytes[at..end]);
+        write_few_digits(rt, &bytes[at..end]);
         at = end;
     }
 }
 
 // Writes the digits of bytes that make one piece.
-fn write_few_digits(bytes: &[u8])
+fn write_few_digits(rt: &HostRuntime, bytes: &[u8])
     requires { 2 * length bytes.now ≤ 4096 }
 {
-    let mut out = io::buffer();
+    let mut out = blank_piece();
     let n = hex_text(bytes, &mut out);
-    write_out(&out, n);
+    write_out(rt, &out, n);
 }
 
 // Writes a word, and the numbers of a book, each behind a space.
-pub fn write_entries(word: &[u8], book: &[Entry]) {
-    write_plain(word);
-    write_numbers(book);
-    write_plain(b"\n");
+pub fn write_entries(rt: &HostRuntime, word: &[u8], book: &[Entry]) {
+    write_plain(rt, word);
+    write_numbers(rt, book);
+    write_plain(rt, b"\n");
 }
 
 // Writes numbers, each behind a space.
-fn write_numbers(numbers: &[Entry]) {
+fn write_numbers(rt: &HostRuntime, numbers: &[Entry]) {
     let mut at = 0;
     while at < numbers.len() {
         let end = piece_end(at, MOST_NUMBERS, numbers.len());
-        write_few_numbers(&numbers[at..end]);
+        write_few_numbers(rt, &numbers[at..end]);
         at = end;
     }
 }
 
 // Writes numbers that make one piece.
-fn write_few_numbers(numbers: &[Entry])
+fn write_few_numbers(rt: &HostRuntime, numbers: &[Entry])
     requires { 21 * length numbers.now ≤ 4096 }
 {
-    let mut out = io::buffer();
+    let mut out = blank_piece();
     let n = numbers_text(numbers, &mut out);
-    write_out(&out, n);
+    write_out(rt, &out, n);
 }

@@ -3,33 +3,33 @@
 #![tactic(auto)]
 
 use drawing::Made;
-use libc::{STDERR_FILENO, STDIN_FILENO, STDOUT_FILENO};
-use report::input::read_on;
+use report::input::{read_full, read_on};
 use report::output::{write_out, write_refusal};
-use report::rooms::{MOST_TEXT, blank_image, blank_text};
+use report::rooms::{MOST_TEXT, blank_image, blank_text, large_buffer};
+use std::io::Write;
 
 // Writes the image that a text names, or its refusal.
-fn write_image(text: &[u8]) {
+fn write_image(rt: &HostRuntime, text: &[u8]) {
     let mut img = blank_image();
     match drawing::read(text, &mut img) {
-        Made::Bytes(n) => write_out(STDOUT_FILENO, &img, n),
-        Made::Refused(r) => write_refusal(STDERR_FILENO, r),
+        Made::Bytes(n) => write_out(&mut rt.stdout(), &img, n),
+        Made::Refused(r) => write_refusal(&mut rt.stderr(), r),
     }
 }
 
 // Reads a text that is too long to its end, and says so.
-fn pass_long() {
-    let mut buf = io::large_buffer();
-    read_on(&mut buf);
-    io::write_all(STDERR_FILENO, b"? larger than 1048576 bytes\n");
+fn pass_long(rt: &HostRuntime) {
+    let mut buf = large_buffer();
+    read_on(&mut rt.stdin(), &mut buf);
+    let _ = rt.stderr().write_all(b"? larger than 1048576 bytes\n");
 }
 
-fn main() {
+fn main(rt: HostRuntime) {
     let mut text = blank_text();
-    let n = io::read_full(STDIN_FILENO, &mut text);
+    let n = read_full(&mut rt.stdin(), &mut text);
     if n <= MOST_TEXT {
-        write_image(&text[..n]);
+        write_image(&rt, &text[..n]);
     } else {
-        pass_long();
+        pass_long(&rt);
     }
 }

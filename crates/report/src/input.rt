@@ -1,10 +1,11 @@
-// Standard input. Of one that is longer than any good image the last 12 bytes are kept, which alone decide its refusal.
+// An image from an input. Of one that is longer than any good image the last 12 bytes are kept, which alone decide its refusal.
 ghost use Rattle.std.specs.Prelude.{◌≡◌, List, ◌++◌, ℕ, ◌+◌, ◌≤◌, ◌<◌, length, take, drop};
 ghost use Rattle.image.specs.Image.{longest_image};
 ghost use Rattle.report.specs.Book.{RefusedAlike, Tail};
 
+use crate::rooms::large_buffer;
 use image::limits::LONGEST_IMAGE;
-use libc::STDIN_FILENO;
+use std::io::Read;
 use text::put::put;
 
 // How many bytes a trailer has.
@@ -46,13 +47,32 @@ fn end_with_tail(buf: &[u8], img: &mut [u8])
     put(&buf[..TRAILER], img, at);
 }
 
-// Reads standard input to its end, and leaves the last 12 bytes of all that came at the front.
-pub fn read_on(buf: &mut [u8])
+// Reads until a buffer is full, the input ends or a read fails, and gives how many bytes came.
+pub fn read_full<R: Read>(from: &mut R, buf: &mut [u8]) -> usize
+    ensures { result ≤ length buf.new }
+{
+    let mut n = 0;
+    while n < buf.len() {
+        match from.read(&mut buf[n..]) {
+            Ok(more) => {
+                if more == 0 {
+                    return n;
+                }
+                n += more;
+            }
+            Err(_) => return n,
+        }
+    }
+    n
+}
+
+// Reads an input to its end, and leaves the last 12 bytes of all that came at the front.
+pub fn read_on<R: Read>(from: &mut R, buf: &mut [u8])
     requires { 12 ≤ length buf.old }
 {
     let mut turns = u64::MAX;
     while 0 < turns {
-        let got = io::read_full(STDIN_FILENO, &mut buf[TRAILER..]);
+        let got = read_full(from, &mut buf[TRAILER..]);
         if got == 0 {
             return;
         }
@@ -62,24 +82,24 @@ pub fn read_on(buf: &mut [u8])
 }
 
 // Reads on behind the first bytes of an input that is longer than any good image, and ends them with the last 12 of all that came.
-fn read_long(img: &mut [u8])
+fn read_long<R: Read>(from: &mut R, img: &mut [u8])
     requires { longest_image < length img.old }
 {
-    let mut buf = io::large_buffer();
+    let mut buf = large_buffer();
     begin_tail(img, &mut buf);
-    read_on(&mut buf);
+    read_on(from, &mut buf);
     end_with_tail(&buf, img);
 }
 
-// Reads an image from standard input, and gives how many bytes of the room it has. A longer input than any good image is refused as what
+// Reads an image from an input, and gives how many bytes of the room it has. A longer input than any good image is refused as what
 // is then in the room.
-pub fn read_image(room: &mut [u8]) -> usize
+pub fn read_image<R: Read>(from: &mut R, room: &mut [u8]) -> usize
     requires { length room.old ≡ longest_image + 1 }
     ensures { result ≤ length room.old }
 {
-    let n = io::read_full(STDIN_FILENO, room);
+    let n = read_full(from, room);
     if LONGEST_IMAGE < n {
-        read_long(&mut room[..n]);
+        read_long(from, &mut room[..n]);
     }
     n
 }

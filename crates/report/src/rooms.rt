@@ -15,6 +15,16 @@ const TEXT_ROOM: usize = MOST_TEXT + 1;
 // What a drawing is written into.
 const TARGET_ROOM: usize = 262144;
 
+// What is read at a time where much is passed over.
+const LARGE: usize = 65536;
+
+// Room for much at a time.
+pub fn large_buffer() -> [u8; LARGE]
+    ensures { 65536 ≡ length result }
+{
+    [0u8; LARGE]
+}
+
 // Room for an image.
 pub fn blank_image() -> [u8; IMAGE_ROOM]
     ensures { longest_image + 1 ≡ length result }

@@ -2,7 +2,7 @@
 ghost use Rattle.std.specs.Prelude.{◌≡◌, ◌++◌, ◌+◌, ◌≤◌, length, take};
 ghost use Rattle.text.specs.Text.{decimal};
 
-use bytes::copy;
+use spans::copy;
 
 // Puts bytes behind the first `at` of a buffer, and gives where they end.
 pub fn put(bytes: &[u8], out: &mut [u8], at: usize) -> usize

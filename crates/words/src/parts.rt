@@ -4,8 +4,8 @@ ghost use Rattle.board.specs.Lists.{same};
 ghost use Rattle.words.specs.Parts.{parts, part, last};
 ghost use Rattle.words.specs.Inner.{parts_from, Next};
 
-use bytes::scan::find;
 use image::numbers::tail;
+use spans::find;
 
 // The fewer of two counts.
 pub fn fewer(a: usize, b: usize) -> usize

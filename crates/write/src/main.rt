@@ -3,22 +3,21 @@
 #![tactic(auto)]
 
 use drawing::Made;
-use libc::{STDERR_FILENO, STDOUT_FILENO};
 use report::input::read_image;
 use report::output::{write_out, write_refusal};
 use report::rooms::{blank_image, blank_target};
 
 // Writes the drawing of an image, or its refusal.
-fn write_drawing(img: &[u8]) {
+fn write_drawing(rt: &HostRuntime, img: &[u8]) {
     let mut text = blank_target();
     match drawing::write(img, &mut text) {
-        Made::Bytes(n) => write_out(STDOUT_FILENO, &text, n),
-        Made::Refused(r) => write_refusal(STDERR_FILENO, r),
+        Made::Bytes(n) => write_out(&mut rt.stdout(), &text, n),
+        Made::Refused(r) => write_refusal(&mut rt.stderr(), r),
     }
 }
 
-fn main() {
+fn main(rt: HostRuntime) {
     let mut img = blank_image();
-    let n = read_image(&mut img);
-    write_drawing(&img[..n]);
+    let n = read_image(&mut rt.stdin(), &mut img);
+    write_drawing(&rt, &img[..n]);
 }

@@ -50,9 +50,9 @@ module _ (t : ℕ → Bool) (w : List ℕ) (i : ℕ) (before : every t w ≡ eve
   unfolding every
   every_more room q = before ∙ rw (add-one, drop-cons w i 0 room, q)
 
-  pub every-not : i < length w → t (get_or w i 0) ≡ false → every t w ≡ false
+  pub every_not : i < length w → t (get_or w i 0) ≡ false → every t w ≡ false
   unfolding every
-  every-not room q = before ∙ rw (drop-cons w i 0 room, q)
+  every_not room q = before ∙ rw (drop-cons w i 0 room, q)
 
   pub every_end : i ≡ length w → every t w ≡ true
   unfolding every

@@ -3,19 +3,19 @@ use mathlib.Core.Path.{◌≡◌, refl, ap}
 use mathlib.Core.Bool.{Bool, true, false}
 use mathlib.Core.List.{List, [], ◌∷◌}
 use Prim.Native.Nat.{ℕ, zero, suc, ◌+◌, ◌-◌, ◌≤◌, ◌<◌, min}
-use native.Mathlib.Nat.{le_of_suc-le-suc, not-suc-le-zero, zero-add, suc-add, zero-min, suc-min-suc}
+use native.Mathlib.Nat.{le_of_suc-le-suc, not-suc-le-zero, zero-add, sub-zero, suc-add, zero-min, suc-min-suc}
 use native.Mathlib.Numerals.{add-one}
 use native.Mathlib.Omega.{arith}
 use lib.Dec.{eqb}
 use lib.ListN.{length, take, drop, length-take, length-drop}
 use lib.Seq.{take-length}
-use Rattle.bytes.specs.Bytes.{index_of, index_after, slice}
+use Rattle.spans.specs.Span.{index_of, index_after, slice}
 use Rattle.words.specs.Parts.{parts, part, last, grown}
 use Rattle.words.specs.Inner.{rest, parts_from, Next}
 
 -- what the kit's search finds is where the first part ends
 index_part : (mark : ℕ) (s : List ℕ) → take (index_of mark s) s ≡ part (parts mark s) 0
-unfolding parts index_of index_after
+unfolding parts index_of
 index_part mark [] = refl
 index_part mark (x ∷ xs) = go (eqb x mark) (parts mark xs) (index_part mark xs)
   where
@@ -26,7 +26,7 @@ index_part mark (x ∷ xs) = go (eqb x mark) (parts mark xs) (index_part mark xs
 
 pub found_part : (mark : ℕ) (s : List ℕ) (end : ℕ) → end ≡ 0 + index_of mark (slice 0 (length s) s) → take end s ≡ part (parts mark s) 0
 unfolding slice
-found_part mark s end found = rw (found, zero-add, take-length) (index_part mark s)
+found_part mark s end found = let whole : slice 0 (length s) s ≡ s = rw (sub-zero, take-length) in rw (found, zero-add, whole) (index_part mark s)
 
 -- the part that begins at a place is the first of what is left there
 pub part_from : (mark at : ℕ) (s : List ℕ) → part (parts mark (drop at s)) 0 ≡ part (parts_from mark at s) 0
