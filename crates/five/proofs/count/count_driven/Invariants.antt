@@ -1,3 +1,4 @@
+-- The count is that of the first j outputs.
 use Rattle.std.proofs.Common.{◌≡◌, ◌-◌, ◌≤◌}
 use Rattle.image.specs.Bytes.{words_at}
 use Rattle.image.specs.Image.{line_count, record_place}

@@ -1,3 +1,4 @@
+-- The row holds the values of the first i lines.
 use Rattle.std.proofs.Common.{◌-◌, [], length}
 use Rattle.board.specs.Row.{step}
 use Rattle.board.specs.Five.{five, partial}

@@ -1,3 +1,4 @@
+-- No bit below i is stray.
 use Rattle.std.proofs.Common.{◌-◌, ◌≤◌}
 use Rattle.board.proofs.Search.{Below}
 use Rattle.five.specs.Partial.{is_stray}
