@@ -4,10 +4,10 @@ ghost use Rattle.board.specs.Board.{inputs as inputsOf};
 ghost use Rattle.image.specs.Image.{record_place, board_of};
 ghost use Rattle.alter.specs.Patch.{patched, would_be_bad, unfit};
 
-use spans::copy;
 use image::numbers::byte;
 use image::records::is_bad_field;
 use image::trailer::record_place;
+use spans::copy;
 
 // Whether some field of the new record would be bad as that line of a board with so many inputs.
 fn would_be_bad(new: &[u8], line: usize, inputs: usize) -> bool
