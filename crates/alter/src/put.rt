@@ -4,7 +4,7 @@ ghost use Rattle.board.specs.Board.{inputs as inputsOf};
 ghost use Rattle.image.specs.Image.{record_place, board_of};
 ghost use Rattle.alter.specs.Patch.{patched, would_be_bad, unfit};
 
-use bytes::copy;
+use spans::copy;
 use image::numbers::byte;
 use image::records::is_bad_field;
 use image::trailer::record_place;

@@ -18,12 +18,12 @@ ghost use Rattle.image.specs.Promise.{Owes};
 ghost use Rattle.drawing.specs.Calls.{made_says, names, ByReading, read_promise, write_promise};
 ghost use Rattle.drawing.specs.Inner.{image_room, outputs_room, Holds, held_promise};
 
-use bytes::copy;
 use form::{Formed, read_form};
 use image::asked::check_image;
 use image::limits::{MOST_LINES, MOST_OUTPUTS};
 use image::trailer::is_outside;
 use image::{Checked, Refusal};
+use spans::copy;
 use statements::{put_text, text_length};
 use stored::{finish, image_room, outputs_room};
 

@@ -12,12 +12,12 @@ ghost use Rattle.drawing.specs.Inner.{piece, piece_count, piece_room};
 ghost use Rattle.drawing.specs.Statements.{statement_of, statement_room, GateOf, StatementOf};
 
 use crate::pieces::{BEFORE_WORDS, put_piece};
-use bytes::copy;
 use image::Counts;
 use image::numbers::{byte, word};
 use image::outputs::output;
 use image::pins::pin_count;
 use image::trailer::record_place;
+use spans::copy;
 use text::put::put_number;
 
 // The buffer that a statement is made in.

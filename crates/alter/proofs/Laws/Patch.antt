@@ -7,7 +7,7 @@ use Prim.Native.Nat.{ℕ, ◌+◌, ◌-◌, ◌≤◌, ◌<◌}
 use native.Mathlib.Omega.{arith}
 use lib.Dec.{eqb, ltb}
 use lib.ListN.{length, get_or, take, drop, length-append, length-take, length-drop, drop_of_length-le, get_or-append}
-use lib.Seq.{take_all, take-length, drop-drop, get_or-append-add, get_or-take, get_or-drop, length-take-le}
+use lib.Seq.{take_all, drop-drop, get_or-append-add, get_or-take, get_or-drop, length-take-le}
 use borrow.Author.Tests.{eqb-true, ltb-false, not-false}
 use Rattle.board.proofs.Lists.{or_false}
 use Rattle.image.specs.Bytes.{byte_at, word_at, long_at}
@@ -74,10 +74,10 @@ module _ (s : List ℕ) (line : ℕ) (new : List ℕ) (ten : length new ≡ 10) 
 
 -- what a copy of the new record to its place leaves is the patched image
 pub pasted : (s : List ℕ) (line : ℕ) (new part : List ℕ) (at : ℕ) → at ≡ record_place s line → length new ≡ 10 → record_place s line + 10 ≤ length s
-    → part ≡ take (length new) new ++ drop (length new) (take (length s - at) (drop at s))
+    → part ≡ new ++ drop (length new) (take (length s - at) (drop at s))
     → take at s ++ (part ++ drop (length s - at) (drop at s)) ≡ patched s line new
 unfolding patched
 pasted s line new part at place ten fits e =
     let rest : take (length s - at) (drop at s) ≡ drop at s = take_all (length s - at) (drop at s) (simp length-drop (omega arith)) in
     let none : drop (length s - at) (drop at s) ≡ [] = drop_of_length-le (drop at s) {i = length s - at} (simp length-drop (omega arith)) in
-    rw (none, append-nil, e, rest, take-length, drop-drop (length new) at s, ten, place) (sym (append_assoc (take (record_place s line) s) new (drop (record_place s line + 10) s)))
+    rw (none, append-nil, e, rest, drop-drop (length new) at s, ten, place) (sym (append_assoc (take (record_place s line) s) new (drop (record_place s line + 10) s)))

@@ -3,7 +3,7 @@ use mathlib.Core.Path.{◌≡◌, refl, sym, ap, ◌∙◌}
 use mathlib.Core.Logic.{⊎_elim, ◌⊎◌, inl, inr}
 use mathlib.Core.Bool.{true, false, cond}
 use mathlib.Core.List.{List, [], ◌∷◌, ◌++◌, append_assoc, append-nil}
-use Prim.Native.Nat.{ℕ, suc, ◌+◌, ◌-◌, ◌≤◌, ◌<◌}
+use Prim.Native.Nat.{ℕ, suc, ◌+◌, ◌≤◌, ◌<◌}
 use native.Mathlib.Nat.{add-suc, suc-add, add-zero}
 use native.Mathlib.Omega.{arith}
 use lib.Dec.{eqb, ltb}
@@ -15,7 +15,7 @@ use Rattle.board.specs.Board.{Record, Board, leading, inputs}
 use Rattle.board.proofs.Lists.{way}
 use Rattle.text.specs.Text.{each}
 use Rattle.drawing.specs.Form.{input_text, output_text, gate_text, lines_text, text_of, last_number, Worded}
-use Rattle.drawing.specs.Inner.{input, output, gate, a_gate, bare, add, Sofar}
+use Rattle.drawing.specs.Inner.{input, output, gate, bare, add, Sofar}
 use Rattle.drawing.proofs.Laws.WriteText.{leading_few}
 
 -- texts of one line more, and of one output more
@@ -54,6 +54,7 @@ record_last rs r d i e = rw e (get_or-append_seam rs r [] d)
 -- one number more in a list
 among_end : (p o : ℕ) (os : List ℕ) → p among (os ++ (o ∷ [])) → (p among os) ⊎ (p ≡ o)
 among_end p o [] (inl e) = inr e
+among_end p o [] (inr later) = elim later [ ]
 among_end p o (q ∷ os) (inl e) = inl (inl e)
 among_end p o (q ∷ os) (inr later) = ⊎_elim (λ there. inl (inr there)) (λ e. inr e) (among_end p o os later)
 

@@ -7,7 +7,7 @@ use native.Mathlib.Omega.{arith}
 use lib.Dec.{lit≤, lit<, ltb}
 use lib.ListN.{length, get_or, drop}
 use borrow.Author.Tests.{lt-ltb, ltb-true, ltb-false}
-use Rattle.board.specs.Lists.{text, same, ◌among◌}
+use Rattle.board.specs.Lists.{◌among◌}
 use Rattle.board.specs.Board.{Record}
 use Rattle.board.proofs.Lists.{way}
 use Rattle.text.specs.Text.{decimal, each}

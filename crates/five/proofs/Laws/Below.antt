@@ -19,14 +19,14 @@ use Rattle.board.specs.declared.Fault.TheVariants.{Line, Pin}
 use Rattle.board.specs.declared.Condition.TheVariants.{Sound, Having}
 use Rattle.board.proofs.Lists.{way, build-length, build_at}
 use Rattle.five.specs.Inner.{Fives}
-use Rattle.five.proofs.Laws.Table.{get_d_below}
+use Rattle.five.proofs.Laws.Table.{get_or_below}
 
 cond_below : (t : Bool) {a b : ℕ} → a < 5 → b < 5 → cond t a b < 5
 cond_below true l m = l
 cond_below false l m = m
 
 pair-below : (g h : ℕ) → pair g h < 5
-pair-below g h = get_d_below 5 (0 ∷ 4 ∷ 3 ∷ 1 ∷ []) tt (2 * g + h) 2 (lit< tt)
+pair-below g h = get_or_below 5 (0 ∷ 4 ∷ 3 ∷ 1 ∷ []) tt (2 * g + h) 2 (lit< tt)
 
 hold_below : (s v : ℕ) → hold5 s v < 5
 hold_below s v = cond_below (eqb v 2) (lit< tt) (pair-below (good_half v) s)

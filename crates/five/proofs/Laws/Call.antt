@@ -8,7 +8,7 @@ use Rattle.board.specs.declared.Fault.{Fault}
 use Rattle.board.specs.declared.Condition.TheVariants.{Having}
 use Rattle.image.specs.Image.{board_of}
 use Rattle.image.specs.Refusals.{first_refusal}
-use Rattle.image.specs.Promise.{answer, Owes}
+use Rattle.image.specs.Promise.{Owes}
 use Rattle.image.specs.Calls.{◌then◌, bad_row, fault_refusals}
 use Rattle.image.proofs.Laws.Answer.{none_both}
 use Rattle.image.proofs.Laws.Promise.{read_back, refused_again, Told, told, done_leaves, done_says, unrefused}

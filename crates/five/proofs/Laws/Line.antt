@@ -24,7 +24,7 @@ use Rattle.image.proofs.Laws.Fine.{line_count_lem, accepted_fine}
 use Rattle.image.proofs.Laws.Line.{held_pins_length, pin_reads, line_step}
 use Rattle.five.specs.Inner.{read_at, Gated}
 use Rattle.five.proofs.Laws.Lists.{any_default}
-use Rattle.five.proofs.Laws.Table.{get_d_below}
+use Rattle.five.proofs.Laws.Table.{get_or_below}
 
 module _ (φ : Condition) (s : List ℕ) (p i : ℕ) (below : List ℕ) where
   read_length : length (read_at φ s p i below) ≡ byte_at s (p + 1)
@@ -39,7 +39,7 @@ module _ (φ : Condition) (s : List ℕ) (p i : ℕ) (below : List ℕ) where
     few_named = rw read_length ok.few
 
     pub few_read : length (read_at φ s p i below) ≤ 4
-    few_read = omega (arith, few_named, get_d_below 5 most_pins tt (byte_at s p) 0 (lit< tt))
+    few_read = omega (arith, few_named, get_or_below 5 most_pins tt (byte_at s p) 0 (lit< tt))
 
     pub present_pin : (j w : ℕ) → j < byte_at s (p + 1)
         → held_at hold5 (stuck_pin φ i j) (get_or below (word_at s (p + 2 + 2 * j)) 0) ≡ get_or (read_at φ s p i below) j w

@@ -27,8 +27,8 @@ from f (x ∷ xs) i t zero d h = rw add-zero (and_yes (f i x) (every f (suc i) x
 from f (x ∷ xs) i t (suc k) d h = rw (add-suc, ← (suc-add i k)) (from f xs (suc i) (and_yes (f i x) (every f (suc i) xs) t).1 k d (le_of_suc-le-suc h))
 
 -- a list whose entries are all below a bound
-pub get_d_below : (n : ℕ) (xs : List ℕ) → T (every (λ i x. ltb x n) 0 xs) → (k d : ℕ) → d < n → get_or xs k d < n
-get_d_below n xs t k d h =
+pub get_or_below : (n : ℕ) (xs : List ℕ) → T (every (λ i x. ltb x n) 0 xs) → (k d : ℕ) → d < n → get_or xs k d < n
+get_or_below n xs t k d h =
     ⊎_elim
     (λ e. ltb→lt _ n (from (λ i x. ltb x n) xs 0 t k d (ltb-true k _ e)))
     (λ e. rw (get_or-eq_default xs d (ltb-false k _ e)) h)

@@ -13,7 +13,7 @@ use borrow.Author.Tests.{ltb-true, ltb-false}
 use Rattle.board.specs.Lists.{bit}
 use Rattle.board.specs.Gate.{bit_of}
 use Rattle.board.proofs.Lists.{way}
-use Rattle.lanes.specs.Words.{each, lane, Lanes}
+use Rattle.lanes.specs.Words.{each, Lanes}
 use Rattle.lanes.specs.Inner.{Put}
 
 -- what holds of each of the eight

@@ -64,22 +64,22 @@ module _ {b : Board} {flat : List ℕ} (is : Flat b flat) (i : ℕ) (inside : i 
       → kind ≡ get_or flat (8 * i) 0 → count ≡ get_or flat (8 * i + 1) 0 → (w : ℕ) → w < 8
       → ((j : ℕ) → j < length (record_of b i).pins → get_or rows (get_or places j 0 + w) 0 ≡ F (get_or flat (8 * i + 2 + j) 0))
       → get_or r w 0 ≡ gate_word (record_of b i).kind (map F (record_of b i).pins)
-  gate_of F kind count places rows r words_are kind-is count_is w l at =
+  gate_of F kind count places rows r words_are kind_is count_is w l at =
       let pins = (record_of b i).pins in
       let many : count ≡ length pins = count_is ∙ is.count i inside in
       words_are w (map F pins) l (length-map pins F ∙ sym many) (λ j m.
       let k = rw many at m in
       map_at F pins j k ∙ sym (ap F (is.pin i j inside k)) ∙ sym (at j k))
-      ∙ ap (λ (q : ℕ). gate_word q (map F pins)) (kind-is ∙ is.kind i inside)
+      ∙ ap (λ (q : ℕ). gate_word q (map F pins)) (kind_is ∙ is.kind i inside)
 
   -- the good word of an input, and of a gate
   pub good_input : (base kind : ℕ) → kind ≡ get_or flat (8 * i) 0 → kind ≡ 0 → input_word base i ≡ value (words base) b i
-  good_input base kind kind-is e = sym (value_is (words base) b low_board i ∙ rw (eq-eqb (record_of b i).kind 0 (sym (is.kind i inside) ∙ sym kind-is ∙ e)))
+  good_input base kind kind_is e = sym (value_is (words base) b low_board i ∙ rw (eq-eqb (record_of b i).kind 0 (sym (is.kind i inside) ∙ sym kind_is ∙ e)))
 
   pub good-gate : (base kind : ℕ) → kind ≡ get_or flat (8 * i) 0 → (kind ≡ 0 → ⊥)
       → gate_word (record_of b i).kind (map (value (words base) b) (record_of b i).pins) ≡ value (words base) b i
-  good-gate base kind kind-is ne =
-      sym (value_is (words base) b low_board i ∙ rw (ne_eqb (record_of b i).kind 0 (λ e. ne (kind-is ∙ is.kind i inside ∙ e))))
+  good-gate base kind kind_is ne =
+      sym (value_is (words base) b low_board i ∙ rw (ne_eqb (record_of b i).kind 0 (λ e. ne (kind_is ∙ is.kind i inside ∙ e))))
 
 -- eight words put among those of the lines leave the room behind them
 pub room_kept : {b : Board} {at : ℕ} {rows e new : List ℕ} → Put rows at e new → at + 8 ≤ 16 * size b → Roomy b rows → Roomy b new

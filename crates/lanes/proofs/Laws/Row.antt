@@ -20,7 +20,7 @@ use Rattle.board.specs.declared.Condition.TheVariants.{Sound, Having}
 use Rattle.board.proofs.Lists.{map_same, way, lower}
 use Rattle.board.proofs.Row.{value_is}
 use Rattle.reach.proofs.Laws.Bits.{zero_bit}
-use Rattle.lanes.specs.Words.{words, flipped, flipped_words, turned, spread, faulty_words}
+use Rattle.lanes.specs.Words.{words, flipped, flipped_words, spread, faulty_words}
 use Rattle.lanes.proofs.Laws.Lane.{each-bit, lane-full, lane-gate, lane_input, lane-turned}
 
 map-map : (f g : ℕ → ℕ) (xs : List ℕ) → map f (map g xs) ≡ map (λ (x : ℕ). f (g x)) xs
