@@ -41,10 +41,10 @@ def plant(edit, folder):
     (folder / name).write_text(text)
 
 
-def differences(program):
-    """The answers of a program that differ from the independent program's, on the first of the gate's scripts where some do."""
+def differences(program, seconds):
+    """The answers of a program that differ from the independent program's, on the first of the gate's scripts where some do; it has so many seconds for one."""
     for number in range(SCRIPTS):
-        failures = compare.held_against(SEED, number, compare.SCRIPT, program, compare.ORACLE, 20)[1]
+        failures = compare.held_against(SEED, number, compare.SCRIPT, program, compare.ORACLE, seconds)[1]
         if failures:
             return [" |".join(words.split("\n")[1:]) for words, commands in failures if commands]
     return []
@@ -59,7 +59,7 @@ def caught_in_oracle(edit):
             plant(edit, folder)
         program = Path(room) / "planted"
         subprocess.run([*COMPILER, "-o", program, folder / "src/main.rs"], check=True)
-        return differences([str(program), "console"])
+        return differences([str(program), "console"], 20)
 
 
 def product_edits():
@@ -103,7 +103,7 @@ def unproved(edit, room):
 def caught_in_product(edit):
     """What the comparison says of the product with a mistake, or as it is; nothing where it sees no difference."""
     with tempfile.TemporaryDirectory() as room:
-        return differences(unproved(edit, Path(room)))
+        return differences(unproved(edit, Path(room)), 300)
 
 
 def main():
