@@ -5,8 +5,6 @@ Its last line is 'N passed, M failed'.
 """
 import os
 import re
-import subprocess
-from pathlib import Path
 
 import archive
 import programs
@@ -14,7 +12,6 @@ from archive import ARCHIVE, ROOM, compiled, run
 from counted import count, end
 from programs import ROOT
 
-TARGET = "x86_64-unknown-linux-gnu"
 CALLS = ("alter", "book", "check", "find", "five", "judge", "pin_book", "read", "refresh", "rows", "show", "write")
 
 # the sheet of document 01, and rows and pin books worked out by hand
@@ -138,37 +135,27 @@ def symbols():
     count("needed", {s[-1] for s in listed if s[-2] == "U"} <= {"memcpy", "memset"}, listed)
 
 
-def from_c(compiler, words, runner):
+def from_c():
     """The example's numbers, every refusal, every fault of board S, and boards of the most lines."""
-    example = compiled(compiler, words, "bindings/c/example.c")
-    compare("C example", run("C example", [*runner, example, ROOT / "boards"]), C_EXAMPLE)
+    compare("C example", run("C example", [compiled("bindings/c/example.c"), ROOT / "boards"]), C_EXAMPLE)
     for source in ("tests/bindings.c", "tests/large.c"):
-        written = run(source, [*runner, compiled(compiler, words, source), ROOT / "boards"])
+        written = run(source, [compiled(source), ROOT / "boards"])
         all_passed = re.search(r"^([0-9]+) passed, 0 failed\n\Z", written, re.MULTILINE)
         count(source, all_passed, written, int(all_passed[1]) if all_passed else 1)
 
 
-def from_rust(compiler, runner):
+def from_rust():
     """The wrapper's tests, and its example's numbers."""
     at = [*programs.CARGO, "--manifest-path", ROOT / "bindings/rust/Cargo.toml"]
     words = dict(os.environ, FORTIZEMBO_LIB=str(ARCHIVE.parent), CARGO_TARGET_DIR=str(ROOM / "rust"))
-    if runner:
-        root = subprocess.check_output(["rustc", "--print", "sysroot"], text=True).strip()
-        if not Path(root, "lib/rustlib", TARGET).exists():
-            print(f"SKIPPED: the Rust wrapper, since rustc has no {TARGET} here")
-            return
-        at += ["--target", TARGET]
-        key = "CARGO_TARGET_" + TARGET.upper().replace("-", "_")
-        words |= {f"{key}_LINKER": compiler, f"{key}_RUNNER": " ".join(runner), "RUSTFLAGS": "-C target-feature=+crt-static"}
     written = run("Rust tests", ["cargo", "test", *at, "--test", "calls"], env=words)
     all_passed = re.search(r"test result: ok\. ([1-9][0-9]*) passed; 0 failed", written)
     count("Rust tests", all_passed, written, int(all_passed[1]) if all_passed else 1)
     compare("Rust example", run("Rust example", ["cargo", "run", *at, "--example", "calls"], env=words), RUST_EXAMPLE)
 
 
-compiler, words, runner = archive.tools()
 archive.build()
 symbols()
-from_c(compiler, words, runner)
-from_rust(compiler, runner)
+from_c()
+from_rust()
 end()

@@ -18,43 +18,43 @@ from programs import LAUNCHER
 
 # the signals that end a launcher
 ENDING = signal.SIGHUP, signal.SIGINT, signal.SIGTERM
-# stands in for rt: a program's source is its binary. It refuses a run beside another one, as shared logs make rt do, and a crate whose
-# source says 'unproved'. While there is a file 'slow' it waits until the launcher has told of each step, and at last until three runs
-# have said that they wait. A file 'before' or 'after' is put in as the program's source before or after the program is built.
+# stands in for rt: a program's source is its binary. It refuses a run beside another one, and a crate whose source says 'unproved'. While
+# there is a file 'slow' it waits until the launcher has told of each step, and at last until three runs have said that they wait. A file
+# 'before' or 'after' is put in as the program's source before or after the program is built. As rt it builds nothing whose stamp it finds, writes
+# a stamp only where the source is still the same, and at last runs what it built.
 RT = """\
 #!/bin/sh
-cd "$(dirname "$0")"
-case $1 in
-doc) echo "$PWD/kit/docs/START-HERE.md" && exit ;;
-version) cat kit/KIT-ID && exit ;;
-esac
-told() { [ ! -f ../slow ] || for _ in $(seq 100); do [ "$(grep -c "$2" ../said)" -ge "$1" ] && return; sleep 0.1; done; }
-begins() { for crate; do : >target/log/$crate.out; done; }
-ends() {
-    if grep -q unproved crates/$1/src/*; then echo "rt: $1 NOT PROVED (exit 1, 0 s)" && exit 1; fi
-    echo "rt: $1 proved (0 s)" | tee target/log/$1.out
+top=$(cd "$(dirname "$0")" && pwd)
+[ "$1" != version ] || exec cat "$top/kit"
+name=${PWD##*/}
+told() { [ ! -f "$top/slow" ] || for _ in $(seq 100); do [ "$(grep -c "$2" "$top/said")" -ge "$1" ] && return; sleep 0.1; done; }
+checks() {
+    echo "rt: chose --jobs 2 for $1" && told 1 "$2"
+    if grep -q unproved "../$1"/src/*; then echo "rt: the library $1 did not build, so nothing above it was checked" && exit 1; fi
 }
-echo "$*" >>calls
-mkdir busy || { echo "rt: $2 NOT PROVED" && exit 1; }
-trap 'rmdir ../busy' EXIT
-cd repository && mkdir -p target/bin target/stamp target/log
-begins base && told 1 '(base)' && ends base
-begins side wing && told 1 '(side wing)' && ends wing && told 1 '(side)' && ends side
-begins $2 && told 1 "($2)" && ends $2
-told 3 waiting
-[ ! -f ../before ] || mv ../before crates/$2/src/main.rt
-cmp -s crates/$2/src/main.rt target/stamp/$2 || cp crates/$2/src/main.rt target/bin/$2
-cp crates/$2/src/main.rt target/stamp/$2
-[ ! -f ../after ] || mv ../after crates/$2/src/main.rt
-echo "rt: ok, 4 crates proved"
+stamp() { sha256sum <src/main.rt | cut -d ' ' -f 1 && sha256sum <"out/$name" | cut -d ' ' -f 1; }
+echo "$* $name" >>"$top/calls"
+mkdir "$top/busy" || { echo "rt: not beside another run" && exit 2; }
+trap 'rmdir "$top/busy"' EXIT
+told 1 reading
+checks base '1 of 4 (base)' && checks side '2 of 4 (side)' && checks wing '3 of 4 (wing)' && mkdir -p out
+if [ "$(stamp 2>&1)" != "$(cat "out/$name.stamp" 2>&1)" ]; then
+    rm -f "out/$name.stamp" && cp src/main.rt out/begun
+    [ ! -f "$top/before" ] || mv "$top/before" src/main.rt
+    checks "$name" "4 of 4 ($name)" && { echo '#!/bin/sh' && cat src/main.rt; } >"out/$name" && chmod +x "out/$name"
+    told 3 waiting
+    [ ! -f "$top/after" ] || mv "$top/after" src/main.rt
+    ! cmp -s src/main.rt out/begun || stamp >"out/$name.stamp"
+fi
+echo "rt: running out/$name" && timeout 1 "out/$name"
 """
-LOADER = '#!/bin/sh\n[ "$1" = --library-path ] && shift 2 && exec sh "$@"\n'
 CRATES = "tool: side wing io libc # the program\n# wing: gone\nother: base\nside: base\nwing: base\nbase:\n"
 FILES = {
     "base/src/lib.rt": "base", "base/specs/Lib.antt": "base", "side/src/lib.rt": "side", "side/proofs/run/Proof.antt": "proof",
     "wing/src/lib.rt": "wing", "other/src/lib.rt": "other", "tool/must-fail/wrong.edit": "edit", "tool/stdout": "",
 }
-PROVING = r"bench: proving tool: crate ([1-4]) of 4 \(([\w ]+)\), [0-9]+ s"
+PROVING = r"bench: proving tool: (.+), [0-9]+ s"
+STEPS = ["reading 4 crates", *(f"crate {i + 1} of 4 ({name})" for i, name in enumerate(("base", "side", "wing", "tool")))]
 WAITING = r"bench: waiting for another run that proves here, [0-9]+ s"
 REFUSES = "cat >/dev/null; echo refused 13 at 7 >&2\n"
 # what a filter's program does, its source, and the exit status, output and words that the launcher owes for it on the input 'in'
@@ -80,6 +80,12 @@ def put(path, text):
     path.write_text(text)
 
 
+def put_program(path, text):
+    """Writes a program."""
+    put(path, text)
+    path.chmod(0o755)
+
+
 def heed_signals():
     """Gives the signals that end a launcher back their own effect."""
     for number in ENDING:
@@ -94,11 +100,8 @@ class Room:
         (folder / "tmp").mkdir()
         self.folder, self.repository = folder, folder / "repository"
         self.crates, self.target, self.said = self.repository / "crates", self.repository / "target", folder / "said"
-        self.tools = folder / "kit/on" / os.uname().machine / "toolchain"
-        for path, text in {folder / "rt": RT, self.tools / "lib/ld-linux-x86-64.so.2": LOADER}.items():
-            put(path, text)
-            path.chmod(0o755)
-        for name, text in {"kit/KIT-ID": "kit 1\n", "kit/docs/START-HERE.md": "", "calls": "", "said": "", "in": "in\n"}.items():
+        put_program(folder / "rt", RT)
+        for name, text in {"kit": "kit 1\n", "calls": "", "said": "", "in": "in\n"}.items():
             put(folder / name, text)
         for name, text in {**FILES, "tool/src/main.rt": program("one")}.items():
             put(self.crates / name, text)
@@ -109,7 +112,7 @@ class Room:
         """How often a proof was asked for since this was last asked."""
         calls = (self.folder / "calls").read_text().splitlines()
         put(self.folder / "calls", "")
-        return calls.count("check tool") if set(calls) <= {"check tool"} else calls
+        return calls.count("run tool") if set(calls) <= {"run tool"} else calls
 
     def start(self, *words, said=subprocess.PIPE):
         """The launcher, started on the input 'in', with no signal ignored: a shell could not heed one that this test was started without."""
@@ -135,7 +138,7 @@ class Room:
 def four_at_once(room):
     """Of four runs on a fresh clone one proves, and tells which crate of how many; the others wait, and say so; all answer right."""
     put(room.folder / "slow", "")
-    put(room.target / "log/tool.out", "rt: tool proved (9 s)\n")
+    put(room.target / "bench.log", "rt: chose --jobs 2 for tool\n")
     with open(room.said, "a") as said:
         runs = [room.start("tool", str(i), said=said) for i in range(4)]
         for i, run in enumerate(runs):
@@ -144,8 +147,8 @@ def four_at_once(room):
     (room.folder / "slow").unlink()
     count("one proof for four runs", room.calls() == 1)
     said = room.said.read_text().splitlines()
-    told = [match.groups() for match in (re.fullmatch(PROVING, line) for line in said) if match]
-    count("told of each crate", list(dict.fromkeys(told)) == [("1", "base"), ("2", "side wing"), ("3", "side"), ("4", "tool")], said)
+    told = [match[1] for match in (re.fullmatch(PROVING, line) for line in said) if match]
+    count("told of each crate", list(dict.fromkeys(told)) == STEPS, said)
     waited = sum(bool(re.fullmatch(WAITING, line)) for line in said)
     count("told of waiting, and of nothing else", waited >= 3 and waited + len(told) == len(said), said)
 
@@ -170,7 +173,7 @@ def proves_by_content(room):
     room.expect("removed", 1, "one")
     put(room.repository / "crates.txt", CRATES + "more: base\n")
     room.expect("changed: crates.txt", 1, "one")
-    put(room.folder / "kit/KIT-ID", "kit 2\n")
+    put(room.folder / "kit", "kit 2\n")
     room.expect("another kit", 1, "one")
     put(room.crates / "tool/src/main.rt", program("two"))
     room.expect("changed: the program", 1, "two")
@@ -183,7 +186,7 @@ def refuses_unproved(room):
     put(room.crates / "tool/src/main.rt", program("three"))
     for _ in range(2):
         status, out, said = room.run("tool")
-        count("not proved", (status, out) == (1, "") and "rt: base NOT PROVED (exit 1, 0 s)\n" in said, (status, out, said))
+        count("not proved", (status, out) == (1, "") and "rt: the library base did not build" in said, (status, out, said))
         count("tried", room.calls() == 1)
     put(room.crates / "base/src/lib.rt", "changed")
     put(room.crates / "tool/src/main.rt", program("two"))
@@ -191,13 +194,17 @@ def refuses_unproved(room):
 
 
 def runs_nothing_else(room):
-    """A binary of other sources, or of none, is not run."""
-    put(room.target / "bin/tool", program("planted"))
+    """A binary of other sources, or of none, is not run, whatever stamp lies beside it."""
+    out = room.crates / "tool/out"
+    put_program(out / "tool", program("planted"))
     room.expect("a binary put in by hand", 0, "two")
     shutil.rmtree(room.target)
-    put(room.target / "bin/tool", program("planted"))
     room.expect("a binary that nothing proved", 1, "two")
-    shutil.rmtree(room.target / "bin")
+    shutil.rmtree(room.target)
+    put_program(out / "tool", program("planted"))
+    put(out / "tool.stamp", "".join(subprocess.check_output(["sha256sum", path], text=True)[:64] + "\n" for path in (room.crates / "tool/src/main.rt", out / "tool")))
+    room.expect("a binary with a stamp that nothing proved", 1, "two")
+    shutil.rmtree(out)
     shutil.rmtree(room.target / "proved")
     room.expect("a proved program whose binary is gone", 1, "two")
 
@@ -217,7 +224,7 @@ def proves_what_it_runs(room):
 
 
 def waits_for_the_gate(room):
-    """While another holds the folder's lock, as ./test does for `rt ci`, which removes target/, nothing is proved."""
+    """While another holds the folder's lock, as ./test does for `rt ci`, which sets aside what is built, nothing is proved."""
     held = os.open(room.repository, os.O_RDONLY)
     fcntl.flock(held, fcntl.LOCK_EX)
     shutil.rmtree(room.target)
@@ -274,7 +281,7 @@ def ends_filters(room):
 
 
 def takes_words(room):
-    """What the launcher's own words do, and that a kit's emulator is used where it has one."""
+    """What the launcher's own words do."""
     put(room.crates / "tool/src/main.rt", program("seven"))
     ended = room.run("--build", "tool")
     count("--build", (ended, room.calls()) == ((0, "", ""), 1), ended)
@@ -283,10 +290,6 @@ def takes_words(room):
     count("a word of the program's", ended == (0, "seven <--build>\nin\n", ""), ended)
     status, out, said = room.run("base")
     count("no program", (status, out, said) == (2, "", "bench: no program base\n") and room.calls() == 0, (status, out, said))
-    emulator = room.tools / "bin/qemu-x86_64"
-    put(emulator, "#!/bin/sh\nprintf 'emulated ' && exec \"$@\"\n")
-    emulator.chmod(0o755)
-    room.expect("emulated", 0, "emulated seven")
 
 
 with tempfile.TemporaryDirectory() as folder:

@@ -8,7 +8,6 @@
 An edit has a line that describes it, then `file:`, then pairs of `old:` and `new:`. Its last line is 'N passed, M failed'.
 """
 import concurrent.futures
-import os
 import shutil
 import subprocess
 import sys
@@ -71,35 +70,34 @@ def product_edits():
 
 
 def keeping_kit(room):
-    """A kit for `rt try` whose linker keeps what it links in room/kept; all else is the installed kit's."""
-    kit = programs.kit()
-    machine = Path("on") / os.uname().machine
-    bare = [Path("."), Path("on"), machine, machine / "toolchain", machine / "toolchain/bin"]
+    """The rt of a kit whose linker keeps the program that it links as room/kept; all else is the installed kit's, which rt finds beside itself."""
+    kit = Path(subprocess.check_output(["rt", "doc"], text=True).strip()).parent
+    bare = [Path(folder) for folder in (".", "bin", "toolchain", "toolchain/bin")]
     for folder in bare:
         (room / "kit" / folder).mkdir()
         for inside in (kit / folder).iterdir():
             if inside.relative_to(kit) not in bare:
                 (room / "kit" / folder / inside.name).symlink_to(inside)
-    linker = room / "kit" / machine / "toolchain/bin/ld.lld"
+    for name in ("rt", "rtlib.py"):
+        (room / "kit/bin" / name).unlink()
+        shutil.copy(kit / "bin" / name, room / "kit/bin")
+    linker = room / "kit/toolchain/bin/ld.lld"
     linker.unlink()
-    linker.write_text(f'#!/bin/sh\n{kit / machine}/toolchain/bin/ld.lld "$@" && cp program {room}/kept/$(ls {room}/kept | wc -l)\n')
+    linker.write_text(f'#!/bin/sh\n{kit}/toolchain/bin/ld.lld "$@" && cp program {room}/kept\n')
     linker.chmod(0o755)
-    (room / "kept").mkdir()
-    return room / "kit"
+    return room / "kit/bin/rt"
 
 
 def unproved(edit, room):
-    """The words that start the console of a copy of the product with an edit, compiled with no proof at -O3, which `rt try` links second."""
-    shutil.copytree(ROOT / "crates", room / "crates")
+    """The console of a copy of the product with an edit, compiled with no proof and with checks by `rt try`, which runs it on no input."""
+    shutil.copytree(ROOT / "crates", room / "crates", ignore=shutil.ignore_patterns("out"))
     shutil.copy(ROOT / "crates.txt", room)
-    for name in ("stdin", "stdout"):
-        (room / "crates/bench" / name).write_bytes(b"")
     if edit:
         plant(edit, room / "crates" / edit.parent.parent.name)
-    tried = subprocess.run(["rt", "try", "bench"], cwd=room, env={**os.environ, "RATTLE_HOME": str(keeping_kit(room))}, capture_output=True)
-    if not (room / "kept/1").exists():
+    tried = subprocess.run([keeping_kit(room), "try"], cwd=room / "crates/bench", stdin=subprocess.DEVNULL, capture_output=True)
+    if not (room / "kept").exists():
         raise SystemExit(f"{edit}: rt try compiled nothing: {tried.stdout} {tried.stderr}")
-    return programs.unproved(room / "kept/1")
+    return [str(room / "kept")]
 
 
 def caught_in_product(edit):

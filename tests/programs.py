@@ -1,5 +1,4 @@
 """The programs that the tests run. A test builds those that it needs before it runs them, so that none is missing, old or in the making."""
-import os
 import subprocess
 from pathlib import Path
 
@@ -24,15 +23,3 @@ def build(name):
 def build_oracle():
     """Builds the independent program."""
     made(["cargo", "build", "--release", *CARGO, "--manifest-path", str(ROOT / "tests/oracle/Cargo.toml")])
-
-
-def kit():
-    """The folder of the Rattle kit."""
-    return Path(subprocess.check_output(["rt", "doc"], text=True).strip()).parent.parent
-
-
-def unproved(binary):
-    """The words that start a program that was compiled with no proof, which the launcher never runs."""
-    tools = kit() / "on" / os.uname().machine / "toolchain"
-    emulator = tools / "bin/qemu-x86_64"
-    return [*[str(emulator)] * emulator.exists(), str(tools / "lib/ld-linux-x86-64.so.2"), "--library-path", str(tools / "lib"), str(binary)]

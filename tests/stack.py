@@ -3,7 +3,6 @@
 
 Its last line is 'N passed, M failed'.
 """
-import os
 import re
 import resource
 import subprocess
@@ -28,19 +27,17 @@ def worked_out():
 
 
 def within(size, words):
-    """What a program gives that has so many bytes of stack; the emulator takes the size from its own variable."""
+    """What a program gives that has so many bytes of stack."""
     lower = lambda: resource.setrlimit(resource.RLIMIT_STACK, (size, size))
-    return subprocess.run([str(word) for word in words], stdout=subprocess.PIPE, stderr=subprocess.STDOUT, text=True, preexec_fn=lower,
-                          env={**os.environ, "QEMU_STACK_SIZE": str(size)})
+    return subprocess.run([str(word) for word in words], stdout=subprocess.PIPE, stderr=subprocess.STDOUT, text=True, preexec_fn=lower)
 
 
 def main():
     """The machine code, then the C tests with the limit, and with half of what the code may need, which has to be too little."""
     archive.build()
     most = worked_out()
-    compiler, words, runner = archive.tools()
     for source in ("tests/bindings.c", "tests/large.c"):
-        run = [*runner, archive.compiled(compiler, words, source), ROOT / "boards"]
+        run = [archive.compiled(source), ROOT / "boards"]
         done = within(LIMIT, run)
         all_passed = re.search(r"^([0-9]+) passed, 0 failed\n\Z", done.stdout, re.M)
         count(source, done.returncode == 0 and all_passed, done.stdout[-2000:], int(all_passed[1]) if all_passed else 1)

@@ -19,7 +19,7 @@ FUNCTION = re.compile(r'^pub (extern "C" )?fn (\w+)(.*?)(?:^\{|(?<=[\w\])>]) \{$
 ROW = re.compile(r"^\| \*\*(.+?)\*\* \|(.*)\|$", re.M)
 INNER = re.compile(r"^- inner: (.*)$", re.M)
 # a contract's promise: of a call on a drawing's text it goes by what that text is
-ENSURED = re.compile(r"ensures \{ λ \w+\. ⌜ (?:ByReading \(now \(\w+ \.entry\)\) \(λ is\. )?(\w+)(?: \((\w+))?")
+ENSURED = re.compile(r"ensures \{ (?:ByReading \w+\.now \(λ is\. )?(\w+)(?: \((\w+))?")
 
 
 def libraries():
@@ -38,8 +38,9 @@ def public_functions():
 
 
 def ensured(header):
-    """What a contract ensures: the word, and where it is Owes or Exported the promise."""
-    return ENSURED.findall(header)
+    """What a contract ensures, by a clause: the word, and where it is Owes or Exported the promise; a clause of another form gives nothing."""
+    clauses = [ENSURED.match(header, at.start()) for at in re.finditer(r"\bensures\b", header)]
+    return [clause.groups("") if clause else ("", "") for clause in clauses]
 
 
 def call_faults(path, name, header, cells, front):
@@ -50,7 +51,7 @@ def call_faults(path, name, header, cells, front):
     law, law_file = re.search(r"`([\w-]+)`, (\S+)", pinned).groups()
     if "requires" in header:
         yield f"{call} has a requires"
-    if ensured(header) not in ([("Owes", promise_name)], [(promise_name, "now")]):
+    if ensured(header) not in ([("Owes", promise_name)], [(promise_name, "")]):
         yield f"{call} does not ensure what {promise_name} owes, alone"
     if promise_name != "ShowOwes" and f"Call ({promise_name} " not in front:
         yield f"{promise_name} is not on the front page"

@@ -40,6 +40,8 @@ AGREED = {
     "section-by": "section_by_lem",
     "word-bytes": "word_bytes_lem",
 }
+# parameters and names of imports, which are declared nowhere
+PARAMETERS = "goodRow faultyRow wantsFaulty goodAfter faultyAfter goodRoom faultyRoom inputsOf stuckAt spreadOut oldPins".split()
 # a record's field and a function in different crates
 APART = [["noPin", "no_pin"], ["pinAt", "pin_at"]]
 TEXTS = ["README.md", "docs/ARCHITECTURE.md", "docs/DECISIONS.md", "docs/PROMISES.md", "tools/calls.py", "tools/assumed.py"]
@@ -93,7 +95,7 @@ def turned(own, functions):
             new = undashed("-".join(camel.get(p, snake(p) if CAMEL.match(p) else p) for p in n.split("-")), words)
             if new != n:
                 names[n] = new
-    return names | AGREED
+    return names | AGREED | {n: snake(n) for n in PARAMETERS}
 
 
 def fall_together(names, own, known):

@@ -1,14 +1,13 @@
 #!/usr/bin/env python3
 """How much stack each call may use at most, worked out from its machine code for x86-64.
 
-    tools/stack.py [FILE]          prints a table of the calls in target/staticlib/libexports.a, or in another archive, or of a program's `main`
+    tools/stack.py [FILE]          prints a table of the calls in crates/exports/out/libexports.a, or in another archive, or of a program's `main`
     tools/stack.py --check [FILE]  says whether every call needs less than 2 MiB, and no more than docs/ARCHITECTURE.md has for it
 
 A function's frame is what all its pushes and subtractions from the stack pointer take together, which is never less than what it has at one time. A
 call needs the frames on its deepest path, with a return address for each. A path that comes back to where it was is refused, unless TURNS says how
 often it may, and so is any other change of the stack pointer that takes more. A function of the C library is taken to need a page.
 """
-import os
 import re
 import shutil
 import subprocess
@@ -17,10 +16,10 @@ from functools import lru_cache
 from pathlib import Path
 
 ROOT = Path(__file__).resolve().parent.parent
-ARCHIVE, PAGE = ROOT / "target/staticlib/libexports.a", ROOT / "docs/ARCHITECTURE.md"
+ARCHIVE, PAGE = ROOT / "crates/exports/out/libexports.a", ROOT / "docs/ARCHITECTURE.md"
 LIMIT, OUTSIDE, ADDRESS = 2 << 20, 4096, 8
 HEAD = "| Call | KiB of stack at most |"
-FUNCTION, INSTRUCTION = re.compile(r"^[0-9a-f]+ <(.+)>:$"), re.compile(r"^\s*([0-9a-f]+):\s+([a-z]\S*)\s*([^#]*)")
+FUNCTION, INSTRUCTION = re.compile(r"^[0-9a-f]+ <(.+)>:$"), re.compile(r"^\s*([0-9a-f]+):\s+([a-z]\S*)\s*(.*?)(?:\s+# .*)?$")
 RELOCATION = re.compile(r"^\s+[0-9a-f]+:\s+R_X86_64_(\w+)\s+(.+?)(?:[-+]0x[0-9a-f]+)?$")
 # functions that call themselves, and how often they are on the stack at most: once for each of a gate's four pins
 TURNS = {"drawing::pins::read_pins": 4}
@@ -34,8 +33,7 @@ class Unknown(Exception):
 
 def disassembler():
     """A program that takes x86-64 machine code apart, or nothing."""
-    native = ["objdump"] if os.uname().machine == "x86_64" else []
-    return next(filter(None, map(shutil.which, [*native, "x86_64-linux-gnu-objdump", "llvm-objdump", "llvm-objdump-14"])), None)
+    return next(filter(None, map(shutil.which, ["objdump", "x86_64-linux-gnu-objdump", "llvm-objdump", "llvm-objdump-14"])), None)
 
 
 class Code:
@@ -48,7 +46,7 @@ class Code:
     def add(self, address, word, operands):
         """One more instruction. A call or a jump leads where its operand says, and a call by a pointer nowhere that is known."""
         self.instructions.append((address, word, operands))
-        target = re.search(r"<(.+?)(\+0x[0-9a-f]+)?>", operands)
+        target = re.search(r"<(.+?)(\+0x[0-9a-f]+)?>$", operands)
         is_own = target and target[1] == self.name and (word != "call" or target[2])
         if target and leads(word) and not is_own:
             self.callees.add(target[1])
@@ -165,11 +163,14 @@ def main(words):
     """Prints the table, or holds it to the page."""
     path = Path(next((word for word in words if word != "--check"), ARCHIVE))
     if not path.exists():
-        raise SystemExit(f"stack: no {path}: rt staticlib exports writes the archive")
+        raise SystemExit(f"stack: no {path}: rt lib in crates/exports writes the archive")
     if disassembler() is None:
         raise SystemExit("stack: no objdump for x86-64: the package binutils-x86-64-linux-gnu has one")
     found = functions(path)
-    entries = sorted(name for name in found if name.startswith("fortizembo_")) or ["main"]
+    # a program's own code begins where `main` of its start-up code jumps to
+    entries = sorted(name for name in found if name.startswith("fortizembo_") or name.endswith("::main+start"))
+    if not entries:
+        raise SystemExit(f"stack: no call and no program in {path}")
     needed = needs(found, entries)
     if "--check" not in words:
         print(table(needed))

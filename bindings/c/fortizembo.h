@@ -1,4 +1,4 @@
-/* The calls of Fortizembo for C. Link with target/staticlib/libexports.a, which `rt staticlib exports` proves and writes for x86-64 Linux;
+/* The calls of Fortizembo for C. Link with crates/exports/out/libexports.a, which `rt lib` in crates/exports proves and writes for x86-64 Linux;
    beside it only memcpy and memset of the C library are needed.
 
    What a call owes is proved for every image, text, fault, pattern, line and length: whatever is bad is refused by its number, and then nothing that

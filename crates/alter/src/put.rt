@@ -1,6 +1,6 @@
 // The new record: refusal 10, and its ten bytes in the image.
 ghost use Rattle.std.specs.Prelude.{◌≡◌, ◌+◌, ◌<◌, ◌≤◌, length};
-ghost use Rattle.board.specs.Board.{inputs as inputsOf};
+ghost use Rattle.board.specs.Board.{inputs as inputs_of};
 ghost use Rattle.image.specs.Image.{record_place, board_of};
 ghost use Rattle.alter.specs.Patch.{patched, would_be_bad, unfit};
 
@@ -25,7 +25,7 @@ fn would_be_bad(new: &[u8], line: usize, inputs: usize) -> bool
 
 // Refusal 10.
 pub fn is_unfit(img: &[u8], line: usize, inputs: usize, new: &[u8]) -> bool
-    requires { (line < 65536) × (inputs ≡ inputsOf (board_of img.now)) }
+    requires { (line < 65536) × (inputs ≡ inputs_of (board_of img.now)) }
     ensures { result ≡ unfit img.now line new.now }
 {
     let at = record_place(img, line);

@@ -71,12 +71,12 @@ pub stays_right : {s t : List ℕ} {books last : Books} → Calls s books t last
 stays_right = stays_whole
 
 -- so two books that were filled once are whole and right ever after
-pub right_ever_after : {s old book said oldPins pins heard t : List ℕ} {last : Books} → Owes (book_promise Lines s old) (book ∷ []) said
-    → first_refusal (book_refusals Lines s old) ≡ none → Owes (book_promise Pins s oldPins) (pins ∷ []) heard → first_refusal (book_refusals Pins s oldPins) ≡ none
+pub right_ever_after : {s old book said old_pins pins heard t : List ℕ} {last : Books} → Owes (book_promise Lines s old) (book ∷ []) said
+    → first_refusal (book_refusals Lines s old) ≡ none → Owes (book_promise Pins s old_pins) (pins ∷ []) heard → first_refusal (book_refusals Pins s old_pins) ≡ none
     → Calls s (both book pins) t last → Accepted t × ((sort : Sort) → WholeBook sort t (last sort))
-right_ever_after {s} {old} {book} {said} {oldPins} {pins} {heard} owes e owed f run =
+right_ever_after {s} {old} {book} {said} {old_pins} {pins} {heard} owes e owed f run =
     let (ok, lines-whole, counted) = filled_whole Lines s old book said owes e in
-    let (accepted, pins-whole, numbered) = filled_whole Pins s oldPins pins heard owed f in
+    let (accepted, pins-whole, numbered) = filled_whole Pins s old_pins pins heard owed f in
     stays_right run ok (by_sort (λ sort. WholeBook sort s (both book pins sort)) lines-whole pins-whole)
 
 -- Drawings. A text that departs from the form is refused with the length of the longest beginning that some text of the form shares, which is

@@ -32,7 +32,7 @@ use Rattle.drawing.specs.Calls.{Reading, Reads, read_promise, write_promise}
 -- the calls, each with what it promises for what it is given; Show has no refusal, and its own promise
 pub data Call : Promise → Type 0 where
   Check : (img : List ℕ) → Call (check_promise img)
-  Rows : (img : List ℕ) (pattern : ℕ) (fault : Fault) (goodRow faultyRow : List ℕ) → Call (rows_promise img pattern fault goodRow faultyRow)
+  Rows : (img : List ℕ) (pattern : ℕ) (fault : Fault) (good_row faulty_row : List ℕ) → Call (rows_promise img pattern fault good_row faulty_row)
   Judge : (img : List ℕ) (pattern : ℕ) (fault : Fault) → Call (judge_promise img pattern fault)
   Refresh : (img : List ℕ) (pattern line : ℕ) (row : List ℕ) → Call (refresh_promise img pattern line row)
   Five : (img : List ℕ) (named values : ℕ) (fault : Fault) (row : List ℕ) → Call (five_promise img named values fault row)

@@ -1,7 +1,7 @@
 // The smallest pattern that shows each fault of a part of a book, block by block from pattern 0 up.
 ghost use Rattle.std.specs.Prelude.{◌≡◌, ℕ, ◌+◌, ◌*◌, ◌^◌, ◌≤◌, ◌<◌, length, get_or};
 ghost use Rattle.board.specs.Limits.{most_lines, most_inputs};
-ghost use Rattle.board.specs.Board.{inputs as inputsOf};
+ghost use Rattle.board.specs.Board.{inputs as inputs_of};
 ghost use Rattle.board.specs.Test.{find};
 ghost use Rattle.board.specs.Book.{fault_at};
 ghost use Rattle.board.specs.declared.Condition.TheVariants.{Having};
@@ -92,7 +92,7 @@ fn try_in(
     part: &mut [Entry],
 )
     requires { Roomed sort first img.now counts (length flat.old) (length rows.old) (length changed.old) (length todo.old) (length part.old) }
-    ensures { Searched sort first (board_of img.now) (2 ^ inputsOf (board_of img.now)) marks.now part.old part.new }
+    ensures { Searched sort first (board_of img.now) (2 ^ inputs_of (board_of img.now)) marks.now part.old part.new }
 {
     let limit = patterns(counts.inputs);
     decode(img, counts, flat);
@@ -114,7 +114,7 @@ fn try_within(
     part: &mut [Entry],
 )
     requires { Known img.now counts × Part sort first img.now (length part.old) × Spacious counts.lines (length rows.old) (length todo.old) }
-    ensures { Searched sort first (board_of img.now) (2 ^ inputsOf (board_of img.now)) marks.now part.old part.new }
+    ensures { Searched sort first (board_of img.now) (2 ^ inputs_of (board_of img.now)) marks.now part.old part.new }
 {
     let lines = counts.lines;
     let numbers = 8 * lines;
@@ -138,7 +138,7 @@ fn try_within(
 // The same with the rows of a small board.
 fn try_small(img: &[u8], counts: Counts, sort: Sort, first: usize, marks: &[u8], part: &mut [Entry])
     requires { Known img.now counts × Part sort first img.now (length part.old) × (counts.lines ≤ few_lines) }
-    ensures { Searched sort first (board_of img.now) (2 ^ inputsOf (board_of img.now)) marks.now part.old part.new }
+    ensures { Searched sort first (board_of img.now) (2 ^ inputs_of (board_of img.now)) marks.now part.old part.new }
 {
     let mut rows = [1u64; 16 * FEW_LINES + 16];
     let mut todo = [0u8; FEW_LINES];
@@ -148,7 +148,7 @@ fn try_small(img: &[u8], counts: Counts, sort: Sort, first: usize, marks: &[u8],
 // The same with the rows of any board.
 fn try_large(img: &[u8], counts: Counts, sort: Sort, first: usize, marks: &[u8], part: &mut [Entry])
     requires { Known img.now counts × Part sort first img.now (length part.old) }
-    ensures { Searched sort first (board_of img.now) (2 ^ inputsOf (board_of img.now)) marks.now part.old part.new }
+    ensures { Searched sort first (board_of img.now) (2 ^ inputs_of (board_of img.now)) marks.now part.old part.new }
 {
     let mut rows = [1u64; MOST_WORDS];
     let mut todo = [0u8; MOST_LINES];
@@ -165,7 +165,7 @@ pub fn try_all(
     part: &mut [Entry],
 )
     requires { Known img.now counts × Part sort first img.now (length part.old) }
-    ensures { Searched sort first (board_of img.now) (2 ^ inputsOf (board_of img.now)) marks.now part.old part.new }
+    ensures { Searched sort first (board_of img.now) (2 ^ inputs_of (board_of img.now)) marks.now part.old part.new }
 {
     if counts.lines <= FEW_LINES {
         try_small(img, counts, sort, first, marks, part);

@@ -1,7 +1,7 @@
 // The five value of one line: the condition is a value, so that there is one way to work a line out.
 ghost use Rattle.std.specs.Prelude.{◌≡◌, ◌<◌, get_or};
 ghost use Rattle.board.specs.Row.{step};
-ghost use Rattle.board.specs.Gate.{stuck as stuckAt, held_line};
+ghost use Rattle.board.specs.Gate.{stuck as stuck_at, held_line};
 ghost use Rattle.board.specs.Inner.{held_at};
 ghost use Rattle.board.specs.Five.{gate5, hold5, five, partial};
 ghost use Rattle.image.specs.Bytes.{byte_at};
@@ -35,7 +35,7 @@ fn held(s: usize, v: usize) -> usize
 
 // What line i gives, of a value that it would have: the value, held where the condition holds the line.
 fn held_line(condition: Condition, i: usize, v: usize) -> u8
-    requires { (stuckAt condition < 2) × (v < 5) }
+    requires { (stuck_at condition < 2) × (v < 5) }
     ensures { result ≡ held_line hold5 condition i v }
 {
     held(stuck_line(condition, i) as usize, v) as u8

@@ -61,12 +61,12 @@ pub record LendLeaves (fresh n old : ℕ) (array : List ℕ) (r : ℕ) (after : 
   pub refuses : length array < n → (r ≡ old) × (after ≡ array)
 
 -- lend rows: the same of two rows
-pub record LendRowsLeaves (g f : ℕ) (old : Lengths) (good faulty : List ℕ) (r : Lengths) (goodAfter faultyAfter : List ℕ) : Type 0 where
+pub record LendRowsLeaves (g f : ℕ) (old : Lengths) (good faulty : List ℕ) (r : Lengths) (good_after faulty_after : List ℕ) : Type 0 where
   pub within : RowsWithin old → RowsWithin r
   pub lends :
       g ≤ most_row → f ≤ most_row
-      → (r ≡ record { good = g; faulty = f }) × (goodAfter ≡ alike fresh_byte g ++ drop g good) × (faultyAfter ≡ alike fresh_byte f ++ drop f faulty)
-  pub refuses : (most_row < g) ⊎ (most_row < f) → (r ≡ old) × (goodAfter ≡ good) × (faultyAfter ≡ faulty)
+      → (r ≡ record { good = g; faulty = f }) × (good_after ≡ alike fresh_byte g ++ drop g good) × (faulty_after ≡ alike fresh_byte f ++ drop f faulty)
+  pub refuses : (most_row < g) ⊎ (most_row < f) → (r ≡ old) × (good_after ≡ good) × (faulty_after ≡ faulty)
 
 -- a HEX word's bytes at the front of some room, and nothing changed where they are too many
 pub record PutWordLeaves (word room : List ℕ) (r : ℕ) (after : List ℕ) : Type 0 where

@@ -4,7 +4,7 @@ ghost use Rattle.board.specs.Limits.{most_lines};
 ghost use Rattle.board.specs.Gate.{bit_of};
 ghost use Rattle.board.specs.Row.{value};
 ghost use Rattle.image.specs.Image.{board_of};
-ghost use Rattle.lanes.specs.Words.{each, masks, spread as spreadOut, input_word, words};
+ghost use Rattle.lanes.specs.Words.{each, masks, spread as spread_out, input_word, words};
 ghost use Rattle.lanes.specs.Inner.{size, Flat, Roomy, GoodTo, Block};
 
 use crate::eight::{FULL, alike, put_eight};
@@ -31,14 +31,14 @@ fn low_word(i: usize) -> u64
 
 // A value in every lane.
 pub fn spread(v: u8) -> u64
-    ensures { result ≡ spreadOut v }
+    ensures { result ≡ spread_out v }
 {
     if v == 1 { FULL } else { 0 }
 }
 
 // The word of an input from 6 on, for the 64 patterns from base on.
 fn high_word(base: u64, i: usize) -> u64
-    ensures { result ≡ spreadOut (bit_of base i) }
+    ensures { result ≡ spread_out (bit_of base i) }
 {
     spread(bit_of(base, i))
 }

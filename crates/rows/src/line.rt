@@ -1,7 +1,7 @@
 // The value of one line, good or faulty: the fault is a value, so that there is one way to work a line out.
 ghost use Rattle.std.specs.Prelude.{◌≡◌, ◌++◌, ◌+◌, ◌*◌, ◌^◌, ◌<◌, get_or, set};
 ghost use Rattle.board.specs.Lists.{bit, ones};
-ghost use Rattle.board.specs.Gate.{asks, faulty, stuck as stuckAt};
+ghost use Rattle.board.specs.Gate.{asks, faulty, stuck as stuck_at};
 ghost use Rattle.image.specs.Bytes.{byte_at};
 ghost use Rattle.image.specs.Inner.{pins_at, line_at};
 
@@ -77,7 +77,7 @@ pub fn line_value(
     before: &[u8],
     part: &[u8],
 ) -> u8
-    requires { (at < 2 ^ 63 + 2 ^ 32) × (stuckAt condition < 2) }
+    requires { (at < 2 ^ 63 + 2 ^ 32) × (stuck_at condition < 2) }
     ensures { result ≡ line_at (faulty condition x) img.now at line (before.now ++ part.now) }
 {
     let held = stuck_line(condition, line);

@@ -8,7 +8,7 @@
 //!
 //! Images are taken to be good: one that can't be run answers `?`, and no refusal has its number here. Any other command answers `?` too.
 
-//! The C library starts `main`: Rust's own start looks up the stack in /proc/self/maps, and the kit's emulator breaks off at that.
+//! The C library starts `main`, as it starts the console's.
 #![cfg_attr(not(test), no_main)]
 
 mod board;

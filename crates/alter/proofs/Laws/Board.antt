@@ -13,7 +13,6 @@ use lib.ListN.{length, set, length-set}
 use lib.Seq.{ext_get_or, get_or-set_same, get_or-set_other}
 use borrow.Author.Tests.{eqb-true, eqb-false, ltb-true, ltb-false}
 use Rattle.board.specs.Board.{Record, leading, inputs, altered}
-use Rattle.board.specs.Test.{first}
 use Rattle.board.proofs.Fine.{leading-set, inputs-altered}
 use Rattle.board.proofs.Lists.{way, build-same}
 use Rattle.board.proofs.Search.{first_none}

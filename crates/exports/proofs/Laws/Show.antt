@@ -35,6 +35,6 @@ module _ (row : List ℕ) (start : ℕ) where
   part_again = rw same-part (take_all (length row - start) (drop start row) (simp length-drop (omega arith)))
 
 -- the bytes that the numbers name are the part that Show owes
-pub numbers_show : (goodRow faultyRow : List ℕ) (wants : Bool) (start : ℕ) → let row = cond wants faultyRow goodRow in
-    ShowOwes goodRow faultyRow wants start (take (length row - start) (drop (min start (length row)) row))
-numbers_show goodRow faultyRow wants start = record { part_of = part_again (cond wants faultyRow goodRow) start }
+pub numbers_show : (good_row faulty_row : List ℕ) (wants : Bool) (start : ℕ) → let row = cond wants faulty_row good_row in
+    ShowOwes good_row faulty_row wants start (take (length row - start) (drop (min start (length row)) row))
+numbers_show good_row faulty_row wants start = record { part_of = part_again (cond wants faulty_row good_row) start }

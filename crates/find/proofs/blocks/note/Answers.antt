@@ -15,8 +15,8 @@ returns-then-at-end c =
     let a = c.args in
     let b = board_of a.img.now in
     let shown : Lanes c.all_of.result (shows b a.condition) a.base =
-      shown_lanes b (fine_low b c.requires.decoded.fine) a.condition c.requires.fault.held a.base c.own_words-own.result c.own_words-own.ensures a.seen c.all_of.result
-      c.requires.sees c.all_of.ensures
+    shown_lanes b (fine_low b c.requires.decoded.fine) a.condition c.requires.fault.held a.base c.own_words-own.result c.own_words-own.ensures a.seen c.all_of.result
+    c.requires.sees c.all_of.ensures
     in
     noted_lane (shows b a.condition) a.base c.all_of.result shown c.requires.span c.lowest.ensures a.old c.if-old-ne-NONE.false c.if-at-end.true
 
@@ -25,7 +25,7 @@ returns-else-at-end c =
     let a = c.args in
     let b = board_of a.img.now in
     let shown : Lanes c.all_of.result (shows b a.condition) a.base =
-      shown_lanes b (fine_low b c.requires.decoded.fine) a.condition c.requires.fault.held a.base c.own_words-own.result c.own_words-own.ensures a.seen c.all_of.result
-      c.requires.sees c.all_of.ensures
+    shown_lanes b (fine_low b c.requires.decoded.fine) a.condition c.requires.fault.held a.base c.own_words-own.result c.own_words-own.ensures a.seen c.all_of.result
+    c.requires.sees c.all_of.ensures
     in
     noted_none (shows b a.condition) a.base c.all_of.result shown c.requires.span c.lowest.ensures a.old c.if-old-ne-NONE.false c.if-at-end.false

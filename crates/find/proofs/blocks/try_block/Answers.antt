@@ -1,5 +1,5 @@
 -- Each line is tried with the entries that it has in the part.
-use Rattle.std.proofs.Common.{◌≡◌, ◌<◌, length, ap, ◌∙◌, arith}
+use Rattle.std.proofs.Common.{◌≡◌, ◌<◌, ap, ◌∙◌, arith}
 use Rattle.board.specs.Gate.{site}
 use Rattle.image.specs.Image.{board_of}
 use Rattle.image.proofs.Laws.Fine.{line_count_lem}

@@ -5,23 +5,23 @@ use Rattle.image.proofs.Laws.Fine.{lines_few, line_count_lem, four_used, accepte
 use Rattle.report.proofs.Laws.Book.{used_more, used_all}
 use Rattle.report.proofs.book.used_pins.Goals as goal
 
-pub pin_count-requires : goal.pin_count-requires
-pin_count-requires c = (omega (arith, c.requires.1), omega (arith, c.requires.1, lines_few _ c.requires.0))
+pub pin_count-used-requires : goal.pin_count-used-requires
+pin_count-used-requires c = (omega (arith, c.requires.1), omega (arith, c.requires.1, lines_few _ c.requires.0))
 
 pub overflow_add-used : goal.overflow_add-used
 overflow_add-used c =
-    let few : c.pin_count.result ≤ 4 =
-      rw c.pin_count.ensures (four_used (accepted_fine _ c.requires.0) _ (omega (arith, c.loop-i-test.true, c.requires.1, line_count_lem c.args.img.now)))
+    let few : c.pin_count-used.result ≤ 4 =
+    rw c.pin_count-used.ensures (four_used (accepted_fine _ c.requires.0) _ (omega (arith, c.loop-i-test.true, c.requires.1, line_count_lem c.args.img.now)))
     in
     omega (arith, few, lines_few _ c.requires.0, c.requires.1)
 
 pub loop-i-preserved : goal.loop-i-preserved
 loop-i-preserved c =
     let inside = c.loop-i-test.true in
-    let few : c.pin_count.result ≤ 4 =
-      rw c.pin_count.ensures (four_used (accepted_fine _ c.requires.0) _ (omega (arith, inside, c.requires.1, line_count_lem c.args.img.now)))
+    let few : c.pin_count-used.result ≤ 4 =
+    rw c.pin_count-used.ensures (four_used (accepted_fine _ c.requires.0) _ (omega (arith, inside, c.requires.1, line_count_lem c.args.img.now)))
     in
-    let more = used_more (board_of c.args.img.now) _ _ c.loop-i.invariant.2 _ (omega (arith, line_count_lem c.args.img.now, c.requires.1)) c.pin_count.ensures in
+    let more = used_more (board_of c.args.img.now) _ _ c.loop-i.invariant.2 _ (omega (arith, line_count_lem c.args.img.now, c.requires.1)) c.pin_count-used.ensures in
     (omega arith, omega arith, more)
 
 pub returns : goal.returns
