@@ -33,6 +33,7 @@ pub struct FaultNumbers {
 }
 
 // The fault that the numbers name.
+#[tactic(auto, unfolding(crate::specs::Fault::fault_named))]
 fn fault_of(n: FaultNumbers) -> Fault
     ensures { result ≡ fault_named n }
 {
