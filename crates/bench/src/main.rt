@@ -17,7 +17,9 @@ use kept::lent_rows::blank_row;
 use kept::nothing_lent;
 use ports::input::{Place, Step, blank_input, first_place, next_step};
 use ports::write::write_plain;
+use ports::{Terminal, new_terminal};
 use report::rooms::{blank_target, large_buffer};
+use std::io;
 
 // What was heard at a place: the next place, a line, whether it asks for an answer, and whether there is more to hear.
 #[derive(Clone, Copy)]
@@ -44,11 +46,11 @@ fn onward(at: Place) -> Heard
 }
 
 // Takes one step: finds a line, or reads on.
-fn step(rt: &HostRuntime, buf: &mut [u8], at: Place) -> Heard
+fn step(terminal: &mut Terminal, buf: &mut [u8], at: Place) -> Heard
     requires { (length buf.old ≡ roomy) × Inside roomy at }
     ensures { HeardIn result }
 {
-    match next_step(rt, buf, at) {
+    match next_step(&terminal.rt, buf, at) {
         Step::Line { from, to, next } => Heard {
             at: next,
             from,
@@ -57,7 +59,7 @@ fn step(rt: &HostRuntime, buf: &mut [u8], at: Place) -> Heard
             open: true,
         },
         Step::Long(next) => {
-            write_plain(rt, b"? line too long\n");
+            write_plain(terminal, b"? line too long\n");
             onward(next)
         }
         Step::More(next) => onward(next),
@@ -72,15 +74,15 @@ fn step(rt: &HostRuntime, buf: &mut [u8], at: Place) -> Heard
 }
 
 // Takes steps until a line asks for an answer, or the input ends.
-fn listen(rt: &HostRuntime, buf: &mut [u8], at: Place) -> Heard
+fn listen(terminal: &mut Terminal, buf: &mut [u8], at: Place) -> Heard
     requires { (length buf.old ≡ roomy) × Inside roomy at }
     ensures { HeardIn result }
 {
     let mut heard = onward(at);
     let mut turns = u64::MAX;
     while 0 < turns {
-        heard = step(rt, buf, heard.at);
-        if heard.asks | !heard.open {
+        heard = step(terminal, buf, heard.at);
+        if heard.asks | !heard.open | terminal.written.is_err() {
             return heard;
         }
         turns -= 1;
@@ -98,7 +100,7 @@ fn left(turns: u64, open: bool) -> u64
 
 // Answers each line that is heard.
 fn talk(
-    rt: &HostRuntime,
+    terminal: &mut Terminal,
     buf: &mut [u8],
     img: &mut [u8],
     good: &mut [u8],
@@ -113,14 +115,14 @@ fn talk(
     let mut held = nothing_lent();
     let mut turns = u64::MAX;
     while 0 < turns {
-        let heard = listen(rt, buf, at);
+        let heard = listen(terminal, buf, at);
         if !heard.asks {
             return;
         }
         let from = heard.from;
         let to = heard.to;
         held = obey(
-            rt,
+            terminal,
             &buf[from..to],
             img,
             good,
@@ -131,12 +133,13 @@ fn talk(
             held,
         );
         at = heard.at;
-        turns = left(turns, heard.open);
+        turns = left(turns, heard.open & terminal.written.is_ok());
     }
 }
 
 // The console, with nothing lent yet.
-fn main(rt: HostRuntime) {
+fn main(rt: HostRuntime) -> io::Result<()> {
+    let mut terminal = new_terminal(rt);
     let mut buf = blank_input();
     let mut img = large_buffer();
     let mut good = blank_row();
@@ -145,7 +148,7 @@ fn main(rt: HostRuntime) {
     let mut pins = blank_pins();
     let mut target = blank_target();
     talk(
-        &rt,
+        &mut terminal,
         &mut buf,
         &mut img,
         &mut good,
@@ -154,4 +157,5 @@ fn main(rt: HostRuntime) {
         &mut pins,
         &mut target,
     );
+    terminal.written
 }

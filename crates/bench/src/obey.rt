@@ -10,11 +10,12 @@ use console::on_target::on_target;
 use image::limits::Entry;
 use kept::Held;
 use kept::anew::anew;
+use ports::Terminal;
 use words::command::{Command, read};
 
 // Answers a line, and gives what is lent afterwards.
 pub fn obey(
-    rt: &HostRuntime,
+    terminal: &mut Terminal,
     line: &[u8],
     img: &mut [u8],
     good: &mut [u8],
@@ -33,30 +34,30 @@ pub fn obey(
     let t = held.target;
     let command = read(line);
     match command {
-        Command::Anew(asked) => anew(rt, asked, line, img, good, faulty, book, pins, held),
+        Command::Anew(asked) => anew(terminal, asked, line, img, good, faulty, book, pins, held),
         Command::OnRows(asked) => Held {
             image: n,
-            rows: on_rows(rt, asked, line, &img[..n], good, faulty, rows),
+            rows: on_rows(terminal, asked, line, &img[..n], good, faulty, rows),
             books,
             target: t,
         },
         Command::OnBook(sort, asked) => Held {
             image: n,
             rows,
-            books: on_book(rt, asked, &img[..n], sort, book, pins, books),
+            books: on_book(terminal, asked, &img[..n], sort, book, pins, books),
             target: t,
         },
         Command::OnTarget(asked) => Held {
             image: n,
             rows,
             books,
-            target: on_target(rt, asked, line, &img[..n], target, t),
+            target: on_target(terminal, asked, line, &img[..n], target, t),
         },
         _ => {
             let b = books.lines;
             let p = books.pins;
             answer(
-                rt,
+                terminal,
                 command,
                 line,
                 &mut img[..n],

@@ -4,11 +4,12 @@ use crate::on_both::write_alter;
 use crate::on_image::on_image;
 use image::limits::Entry;
 use image::numbers::tail;
+use ports::Terminal;
 use words::command::Command;
 
 // Answers such a command, on the image and the books, as much as is lent of them.
 pub fn answer(
-    rt: &HostRuntime,
+    terminal: &mut Terminal,
     command: Command,
     line: &[u8],
     img: &mut [u8],
@@ -16,16 +17,16 @@ pub fn answer(
     pins: &mut [Entry],
 ) {
     match command {
-        Command::OnImage(asked) => on_image(rt, asked, line, img),
+        Command::OnImage(asked) => on_image(terminal, asked, line, img),
         Command::Alter { line: gate, from } => write_alter(
-            rt,
+            terminal,
             tail(line, from),
             gate,
             img,
             book,
             pins,
         ),
-        Command::Unread(why) => write_reason(rt, why),
-        _ => write_help(rt),
+        Command::Unread(why) => write_reason(terminal, why),
+        _ => write_help(terminal),
     }
 }

@@ -6,48 +6,49 @@ use answers::book_answer;
 use board::Sort;
 use image::limits::Entry;
 use kept::lent_book::{BookLengths, lend_book};
+use ports::Terminal;
 use ports::write::{write_entries, write_out, write_plain};
 use text::line::blank_line;
 use words::command::OnBook;
 
 // put entry and put pin: the entry at a place becomes a number.
-fn put_entry(rt: &HostRuntime, place: u64, number: u64, book: &mut [Entry]) {
+fn put_entry(terminal: &mut Terminal, place: u64, number: u64, book: &mut [Entry]) {
     let k = place as usize;
     if book.len() <= k {
-        write_plain(rt, b"? past the end\n");
+        write_plain(terminal, b"? past the end\n");
         return;
     }
     book[k] = number;
-    write_plain(rt, b"lent\n");
+    write_plain(terminal, b"lent\n");
 }
 
 // Writes Book's answer, or the pin book's.
-fn write_book(rt: &HostRuntime, img: &[u8], sort: Sort, book: &mut [Entry]) {
+fn write_book(terminal: &mut Terminal, img: &[u8], sort: Sort, book: &mut [Entry]) {
     let mut out = blank_line();
     let n = book_answer(img, sort, book, &mut out);
-    write_out(rt, &out, n);
+    write_out(terminal, &out, n);
 }
 
 // Writes the numbers of a book behind its word.
-fn write_numbers(rt: &HostRuntime, sort: Sort, book: &[Entry]) {
+fn write_numbers(terminal: &mut Terminal, sort: Sort, book: &[Entry]) {
     match sort {
-        Sort::Lines => write_entries(rt, b"entries", book),
-        Sort::Pins => write_entries(rt, b"pins", book),
+        Sort::Lines => write_entries(terminal, b"entries", book),
+        Sort::Pins => write_entries(terminal, b"pins", book),
     }
 }
 
 // Answers a command that uses the lent book as it is.
-fn use_book(rt: &HostRuntime, asked: OnBook, img: &[u8], sort: Sort, book: &mut [Entry]) {
+fn use_book(terminal: &mut Terminal, asked: OnBook, img: &[u8], sort: Sort, book: &mut [Entry]) {
     match asked {
-        OnBook::Put { place, number } => put_entry(rt, place, number, book),
-        OnBook::Book => write_book(rt, img, sort, book),
-        _ => write_numbers(rt, sort, book),
+        OnBook::Put { place, number } => put_entry(terminal, place, number, book),
+        OnBook::Book => write_book(terminal, img, sort, book),
+        _ => write_numbers(terminal, sort, book),
     }
 }
 
 // Answers a command, and gives how much is lent afterwards of the book, which is an array here.
 fn on_one(
-    rt: &HostRuntime,
+    terminal: &mut Terminal,
     asked: OnBook,
     img: &[u8],
     sort: Sort,
@@ -58,9 +59,9 @@ fn on_one(
     ensures { result ≤ length book.old }
 {
     match asked {
-        OnBook::Lend { numbers } => lend_book(rt, numbers, book, lent),
+        OnBook::Lend { numbers } => lend_book(terminal, numbers, book, lent),
         _ => {
-            use_book(rt, asked, img, sort, &mut book[..lent]);
+            use_book(terminal, asked, img, sort, &mut book[..lent]);
             lent
         }
     }
@@ -68,7 +69,7 @@ fn on_one(
 
 // Answers a command on the book of a sort, and gives how much is lent afterwards of the two, which are arrays here.
 pub fn on_book(
-    rt: &HostRuntime,
+    terminal: &mut Terminal,
     asked: OnBook,
     img: &[u8],
     sort: Sort,
@@ -81,12 +82,12 @@ pub fn on_book(
 {
     match sort {
         Sort::Lines => BookLengths {
-            lines: on_one(rt, asked, img, sort, book, lent.lines),
+            lines: on_one(terminal, asked, img, sort, book, lent.lines),
             pins: lent.pins,
         },
         Sort::Pins => BookLengths {
             lines: lent.lines,
-            pins: on_one(rt, asked, img, sort, pins, lent.pins),
+            pins: on_one(terminal, asked, img, sort, pins, lent.pins),
         },
     }
 }

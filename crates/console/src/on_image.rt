@@ -5,6 +5,7 @@ ghost use Rattle.text.specs.Text.{line_room};
 use answers::{check_answer, find_answer, judge_answer};
 use drawing::Made;
 use image::numbers::tail;
+use ports::Terminal;
 use ports::files::write_file;
 use ports::write::{write_hex, write_out, write_plain};
 use report::output::write_refusal;
@@ -13,20 +14,20 @@ use text::line::blank_line;
 use words::command::OnImage;
 
 // save: bytes go to a file.
-fn save(rt: &HostRuntime, path: &[u8], bytes: &[u8]) {
-    if write_file(rt, path, bytes) {
-        write_plain(rt, b"saved\n");
+fn save(terminal: &mut Terminal, path: &[u8], bytes: &[u8]) {
+    if write_file(&terminal.rt, path, bytes) {
+        write_plain(terminal, b"saved\n");
         return;
     }
-    write_plain(rt, b"? cannot write\n");
+    write_plain(terminal, b"? cannot write\n");
 }
 
 // export: the image's drawing goes to a file, which is left alone where the image is refused.
-fn export(rt: &HostRuntime, path: &[u8], img: &[u8]) {
+fn export(terminal: &mut Terminal, path: &[u8], img: &[u8]) {
     let mut text = blank_target();
     match drawing::write(img, &mut text) {
-        Made::Bytes(n) => save(rt, path, &text[..n]),
-        Made::Refused(r) => write_refusal(&mut rt.stdout(), r),
+        Made::Bytes(n) => save(terminal, path, &text[..n]),
+        Made::Refused(r) => terminal.written = write_refusal(&mut terminal.rt.stdout(), r),
     }
 }
 
@@ -44,15 +45,15 @@ fn image_line(asked: OnImage, img: &[u8], out: &mut [u8]) -> usize
 }
 
 // Answers a command.
-pub fn on_image(rt: &HostRuntime, asked: OnImage, line: &[u8], img: &[u8]) {
+pub fn on_image(terminal: &mut Terminal, asked: OnImage, line: &[u8], img: &[u8]) {
     match asked {
-        OnImage::Save { from } => save(rt, tail(line, from), img),
-        OnImage::Export { from } => export(rt, tail(line, from), img),
-        OnImage::Image => write_hex(rt, b"image ", img),
+        OnImage::Save { from } => save(terminal, tail(line, from), img),
+        OnImage::Export { from } => export(terminal, tail(line, from), img),
+        OnImage::Image => write_hex(terminal, b"image ", img),
         _ => {
             let mut out = blank_line();
             let n = image_line(asked, img, &mut out);
-            write_out(rt, &out, n);
+            write_out(terminal, &out, n);
         }
     }
 }

@@ -6,6 +6,7 @@ ghost use Rattle.kept.specs.Kept.{most_row, RowsWithin};
 use answers::{five_answer, refresh_answer, rows_answer};
 use image::numbers::tail;
 use kept::lent_rows::{Lengths, lend_rows, put_row};
+use ports::Terminal;
 use ports::write::{write_hex, write_out};
 use rows::show;
 use text::line::blank_line;
@@ -29,29 +30,35 @@ fn rows_line(asked: OnRows, img: &[u8], good: &mut [u8], faulty: &mut [u8], out:
 }
 
 // Answers a command that uses the lent rows as they are.
-fn use_rows(rt: &HostRuntime, asked: OnRows, img: &[u8], good: &mut [u8], faulty: &mut [u8]) {
+fn use_rows(
+    terminal: &mut Terminal,
+    asked: OnRows,
+    img: &[u8],
+    good: &mut [u8],
+    faulty: &mut [u8],
+) {
     match asked {
         OnRows::ShowGood { start } => write_hex(
-            rt,
+            terminal,
             b"row ",
             show(good, faulty, false, start as usize),
         ),
         OnRows::ShowFaulty { start } => write_hex(
-            rt,
+            terminal,
             b"row ",
             show(good, faulty, true, start as usize),
         ),
         _ => {
             let mut out = blank_line();
             let n = rows_line(asked, img, good, faulty, &mut out);
-            write_out(rt, &out, n);
+            write_out(terminal, &out, n);
         }
     }
 }
 
 // Answers a command, and gives how much is lent afterwards of the two rows, which are arrays here.
 pub fn on_rows(
-    rt: &HostRuntime,
+    terminal: &mut Terminal,
     asked: OnRows,
     line: &[u8],
     img: &[u8],
@@ -63,19 +70,19 @@ pub fn on_rows(
     ensures { RowsWithin result }
 {
     match asked {
-        OnRows::Lend { good: g, faulty: f } => lend_rows(rt, g, f, good, faulty, lent),
+        OnRows::Lend { good: g, faulty: f } => lend_rows(terminal, g, f, good, faulty, lent),
         OnRows::PutGood { from } => Lengths {
-            good: put_row(rt, tail(line, from), good, lent.good),
+            good: put_row(terminal, tail(line, from), good, lent.good),
             faulty: lent.faulty,
         },
         OnRows::PutFaulty { from } => Lengths {
             good: lent.good,
-            faulty: put_row(rt, tail(line, from), faulty, lent.faulty),
+            faulty: put_row(terminal, tail(line, from), faulty, lent.faulty),
         },
         _ => {
             let g = lent.good;
             let f = lent.faulty;
-            use_rows(rt, asked, img, &mut good[..g], &mut faulty[..f]);
+            use_rows(terminal, asked, img, &mut good[..g], &mut faulty[..f]);
             lent
         }
     }

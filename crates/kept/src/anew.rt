@@ -12,6 +12,7 @@ use answers::check_answer;
 use image::Checked;
 use image::asked::check_image;
 use image::limits::Entry;
+use ports::Terminal;
 use ports::write::write_out;
 use text::line::blank_line;
 use words::command::Anew;
@@ -27,15 +28,15 @@ fn lines_of(img: &[u8]) -> usize
 }
 
 // Writes Check's answer.
-fn write_check(rt: &HostRuntime, img: &[u8]) {
+fn write_check(terminal: &mut Terminal, img: &[u8]) {
     let mut out = blank_line();
     let n = check_answer(img, &mut out);
-    write_out(rt, &out, n);
+    write_out(terminal, &out, n);
 }
 
 // Lends fresh rows and fresh books for the image of n bytes, and answers as Check does; the target stays as it is.
 fn take_image(
-    rt: &HostRuntime,
+    terminal: &mut Terminal,
     n: usize,
     img: &[u8],
     good: &mut [u8],
@@ -54,7 +55,7 @@ fn take_image(
     freshen_row(&mut faulty[..lines]);
     freshen_book(&mut book[..entries]);
     freshen_book(&mut pins[..pin_entries]);
-    write_check(rt, &img[..n]);
+    write_check(terminal, &img[..n]);
     Held {
         image: n,
         rows: Lengths {
@@ -71,7 +72,7 @@ fn take_image(
 
 // The command's image, and what is lent for it; where it brings none, nothing changes.
 pub fn anew(
-    rt: &HostRuntime,
+    terminal: &mut Terminal,
     asked: Anew,
     line: &[u8],
     img: &mut [u8],
@@ -84,9 +85,9 @@ pub fn anew(
     requires { Arrays img.old good.old faulty.old book.old pins.old × Within held }
     ensures { Within result }
 {
-    let n = bring_image(rt, asked, line, img);
+    let n = bring_image(terminal, asked, line, img);
     if MOST_IMAGE < n {
         return held;
     }
-    take_image(rt, n, img, good, faulty, book, pins, held.target)
+    take_image(terminal, n, img, good, faulty, book, pins, held.target)
 }

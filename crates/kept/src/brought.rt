@@ -5,6 +5,7 @@ ghost use Rattle.kept.specs.Kept.{most_image};
 use crate::word::put_word;
 use drawing::Made;
 use image::numbers::tail;
+use ports::Terminal;
 use ports::files::read_file;
 use ports::write::write_plain;
 use report::output::write_refusal;
@@ -25,55 +26,55 @@ fn blank_room() -> [u8; IMAGE_ROOM]
 }
 
 // Reads a file, and gives how many bytes came; all of the room's where it can't be read or is larger, and that is answered.
-fn open(rt: &HostRuntime, path: &[u8], room: &mut [u8]) -> usize
+fn open(terminal: &mut Terminal, path: &[u8], room: &mut [u8]) -> usize
     ensures { result ≤ length room.old }
 {
-    let n = read_file(rt, path, room);
+    let n = read_file(&terminal.rt, path, room);
     if n == room.len() {
-        write_plain(rt, b"? cannot read\n");
+        write_plain(terminal, b"? cannot read\n");
     }
     n
 }
 
 // Puts the image that a text names in front of the room, and gives its length; all of the room's where the text is refused, and that is answered.
-fn make_image(rt: &HostRuntime, text: &[u8], room: &mut [u8]) -> usize {
+fn make_image(terminal: &mut Terminal, text: &[u8], room: &mut [u8]) -> usize {
     match drawing::read(text, room) {
         Made::Bytes(n) => n,
         Made::Refused(r) => {
-            write_refusal(&mut rt.stdout(), r);
+            terminal.written = write_refusal(&mut terminal.rt.stdout(), r);
             room.len()
         }
     }
 }
 
 // The same of the text in a file.
-fn import(rt: &HostRuntime, path: &[u8], room: &mut [u8]) -> usize {
+fn import(terminal: &mut Terminal, path: &[u8], room: &mut [u8]) -> usize {
     let mut text = blank_text();
-    let n = open(rt, path, &mut text);
+    let n = open(terminal, path, &mut text);
     if n == text.len() {
         return room.len();
     }
-    make_image(rt, &text[..n], room)
+    make_image(terminal, &text[..n], room)
 }
 
 // Puts what a command brings in front of the room, and gives how many bytes; more than the longest image has where it brings none.
-fn bring(rt: &HostRuntime, asked: Anew, line: &[u8], room: &mut [u8]) -> usize
+fn bring(terminal: &mut Terminal, asked: Anew, line: &[u8], room: &mut [u8]) -> usize
     requires { most_image ≤ length room.old }
 {
     match asked {
-        Anew::Load { from } => put_word(rt, tail(line, from), &mut room[..MOST_IMAGE]),
-        Anew::Open { from } => open(rt, tail(line, from), room),
-        Anew::Import { from } => import(rt, tail(line, from), room),
+        Anew::Load { from } => put_word(terminal, tail(line, from), &mut room[..MOST_IMAGE]),
+        Anew::Open { from } => open(terminal, tail(line, from), room),
+        Anew::Import { from } => import(terminal, tail(line, from), room),
     }
 }
 
 // Puts what a command brings in the image's array, and gives how many bytes; where they are more than the longest image has, nothing changes.
-pub fn bring_image(rt: &HostRuntime, asked: Anew, line: &[u8], img: &mut [u8]) -> usize
+pub fn bring_image(terminal: &mut Terminal, asked: Anew, line: &[u8], img: &mut [u8]) -> usize
     requires { length img.old ≡ most_image }
     ensures { most_image < result → img.new ≡ img.old }
 {
     let mut room = blank_room();
-    let n = bring(rt, asked, line, &mut room);
+    let n = bring(terminal, asked, line, &mut room);
     if n <= MOST_IMAGE {
         copy(&room[..n], img);
     }

@@ -3,6 +3,7 @@ ghost use Rattle.std.specs.Prelude.{◌≡◌, length};
 ghost use Rattle.kept.specs.Kept.{most_book, most_pins, fresh_number, alike, LendLeaves};
 
 use image::limits::Entry;
+use ports::Terminal;
 use ports::write::write_plain;
 
 // The longest line book and pin book that the console keeps, and the number of a fresh one.
@@ -44,15 +45,15 @@ pub fn freshen_book(book: &mut [Entry])
 }
 
 // lend book and lend pins: a fresh book of that length in an array. Gives its length, which is the old one where it is too long.
-pub fn lend_book(rt: &HostRuntime, numbers: u64, book: &mut [Entry], old: usize) -> usize
+pub fn lend_book(terminal: &mut Terminal, numbers: u64, book: &mut [Entry], old: usize) -> usize
     ensures { LendLeaves fresh_number numbers old book.old result book.new }
 {
     let n = numbers as usize;
     if book.len() < n {
-        write_plain(rt, b"? too many\n");
+        write_plain(terminal, b"? too many\n");
         return old;
     }
     freshen_book(&mut book[..n]);
-    write_plain(rt, b"lent\n");
+    write_plain(terminal, b"lent\n");
     n
 }

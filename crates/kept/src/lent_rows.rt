@@ -3,6 +3,7 @@ ghost use Rattle.std.specs.Prelude.{◌≡◌, length};
 ghost use Rattle.kept.specs.Kept.{most_row, fresh_byte, alike, LendRowsLeaves, PutRowLeaves};
 
 use crate::word::put_word;
+use ports::Terminal;
 use ports::write::write_plain;
 
 // The longest row that the console keeps, and the byte of a fresh one.
@@ -37,7 +38,7 @@ pub fn freshen_row(row: &mut [u8])
 
 // lend rows: two fresh rows of these lengths.
 pub fn lend_rows(
-    rt: &HostRuntime,
+    terminal: &mut Terminal,
     g: u64,
     f: u64,
     good: &mut [u8],
@@ -50,12 +51,12 @@ pub fn lend_rows(
     let good_end = g as usize;
     let faulty_end = f as usize;
     if (MOST_ROW < good_end) | (MOST_ROW < faulty_end) {
-        write_plain(rt, b"? too many\n");
+        write_plain(terminal, b"? too many\n");
         return old;
     }
     freshen_row(&mut good[..good_end]);
     freshen_row(&mut faulty[..faulty_end]);
-    write_plain(rt, b"lent\n");
+    write_plain(terminal, b"lent\n");
     Lengths {
         good: good_end,
         faulty: faulty_end,
@@ -63,14 +64,14 @@ pub fn lend_rows(
 }
 
 // put good and put faulty: a row becomes a HEX word's bytes. Gives its length, which is the old one where they are too many.
-pub fn put_row(rt: &HostRuntime, word: &[u8], row: &mut [u8], old: usize) -> usize
+pub fn put_row(terminal: &mut Terminal, word: &[u8], row: &mut [u8], old: usize) -> usize
     requires { length row.old ≡ most_row }
     ensures { PutRowLeaves word.now row.old old result row.new }
 {
-    let n = put_word(rt, word, row);
+    let n = put_word(terminal, word, row);
     if MOST_ROW < n {
         return old;
     }
-    write_plain(rt, b"lent\n");
+    write_plain(terminal, b"lent\n");
     n
 }

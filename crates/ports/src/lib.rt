@@ -5,3 +5,20 @@
 pub mod files;
 pub mod input;
 pub mod write;
+
+use std::io;
+
+// The console's way in and out, and how writing its answers went: where a write failed nothing more is written, and the console ends.
+#[derive(Drop)]
+pub struct Terminal {
+    pub rt: HostRuntime,
+    pub written: io::Result<()>,
+}
+
+// The way of a console that has not written anything yet.
+pub fn new_terminal(rt: HostRuntime) -> Terminal {
+    Terminal {
+        rt,
+        written: Ok(()),
+    }
+}

@@ -6,10 +6,11 @@ use drawing::Made;
 use report::input::{read_full, read_on};
 use report::output::{write_out, write_refusal};
 use report::rooms::{MOST_TEXT, blank_image, blank_text, large_buffer};
+use std::io;
 use std::io::Write;
 
 // Writes the image that a text names, or its refusal.
-fn write_image(rt: &HostRuntime, text: &[u8]) {
+fn write_image(rt: &HostRuntime, text: &[u8]) -> io::Result<()> {
     let mut img = blank_image();
     match drawing::read(text, &mut img) {
         Made::Bytes(n) => write_out(&mut rt.stdout(), &img, n),
@@ -18,18 +19,18 @@ fn write_image(rt: &HostRuntime, text: &[u8]) {
 }
 
 // Reads a text that is too long to its end, and says so.
-fn pass_long(rt: &HostRuntime) {
+fn pass_long(rt: &HostRuntime) -> io::Result<()> {
     let mut buf = large_buffer();
     read_on(&mut rt.stdin(), &mut buf);
-    let _ = rt.stderr().write_all(b"? larger than 1048576 bytes\n");
+    rt.stderr().write_all(b"? larger than 1048576 bytes\n")
 }
 
-fn main(rt: HostRuntime) {
+fn main(rt: HostRuntime) -> io::Result<()> {
     let mut text = blank_text();
     let n = read_full(&mut rt.stdin(), &mut text);
     if n <= MOST_TEXT {
-        write_image(&rt, &text[..n]);
+        write_image(&rt, &text[..n])
     } else {
-        pass_long(&rt);
+        pass_long(&rt)
     }
 }

@@ -3,19 +3,20 @@ ghost use Rattle.std.specs.Prelude.{◌≤◌, length};
 
 use crate::lines::refusal_line;
 use image::Refusal;
+use std::io;
 use std::io::Write;
 use text::line::blank_line;
 
-// Writes the first n bytes of a buffer. What can't be written is lost.
-pub fn write_out<W: Write>(to: &mut W, out: &[u8], n: usize)
+// Writes the first n bytes of a buffer.
+pub fn write_out<W: Write>(to: &mut W, out: &[u8], n: usize) -> io::Result<()>
     requires { n ≤ length out.now }
 {
-    let _ = to.write_all(&out[..n]);
+    to.write_all(&out[..n])
 }
 
 // Writes a refusal's one line.
-pub fn write_refusal<W: Write>(to: &mut W, r: Refusal) {
+pub fn write_refusal<W: Write>(to: &mut W, r: Refusal) -> io::Result<()> {
     let mut out = blank_line();
     let n = refusal_line(r, &mut out);
-    write_out(to, &out, n);
+    write_out(to, &out, n)
 }
