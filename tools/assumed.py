@@ -22,7 +22,8 @@ def reached(crate):
     """The C functions on whose contracts the proof of a crate rests, or nothing where it is not proved; one rt at a time in this folder."""
     check = subprocess.run(["flock", ROOT, "rt", "check", "--list-axioms"], cwd=ROOT / "crates" / crate, stdin=subprocess.DEVNULL,
                            stdout=subprocess.PIPE, stderr=subprocess.STDOUT, text=True)
-    is_proved = check.returncode == 0 and re.search(r"^axioms [^\n]*$.*^logic=proved [^\n]*\n\Z", check.stdout, re.M | re.S)
+    verdicts = re.findall(r"^logic=(\S+)", check.stdout, re.M)
+    is_proved = check.returncode == 0 and verdicts[-1:] == ["proved"]
     return sorted(re.findall(r"^  (\S+) +reached$", check.stdout, re.M)) if is_proved else None
 
 
