@@ -5,10 +5,10 @@ ghost use Rattle.text.specs.Text.{line_room};
 use answers::{check_answer, find_answer, judge_answer};
 use drawing::Made;
 use image::numbers::tail;
+use kept::tell;
 use ports::Terminal;
 use ports::files::write_file;
 use ports::write::{write_hex, write_out, write_plain};
-use report::output::write_refusal;
 use report::rooms::blank_target;
 use text::line::blank_line;
 use words::command::OnImage;
@@ -27,7 +27,7 @@ fn export(terminal: &mut Terminal, path: &[u8], img: &[u8]) {
     let mut text = blank_target();
     match drawing::write(img, &mut text) {
         Made::Bytes(n) => save(terminal, path, &text[..n]),
-        Made::Refused(r) => terminal.written = write_refusal(&mut terminal.rt.stdout(), r),
+        Made::Refused(r) => tell(terminal, r),
     }
 }
 

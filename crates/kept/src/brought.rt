@@ -2,13 +2,13 @@
 ghost use Rattle.std.specs.Prelude.{◌≡◌, ◌+◌, ◌≤◌, ◌<◌, length};
 ghost use Rattle.kept.specs.Kept.{most_image};
 
+use crate::tell;
 use crate::word::put_word;
 use drawing::Made;
 use image::numbers::tail;
 use ports::Terminal;
 use ports::files::read_file;
 use ports::write::write_plain;
-use report::output::write_refusal;
 use report::rooms::blank_text;
 use spans::copy;
 use words::command::Anew;
@@ -41,7 +41,7 @@ fn make_image(terminal: &mut Terminal, text: &[u8], room: &mut [u8]) -> usize {
     match drawing::read(text, room) {
         Made::Bytes(n) => n,
         Made::Refused(r) => {
-            terminal.written = write_refusal(&mut terminal.rt.stdout(), r);
+            tell(terminal, r);
             room.len()
         }
     }

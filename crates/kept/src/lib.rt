@@ -11,8 +11,11 @@ pub mod word;
 
 ghost use Rattle.kept.specs.Kept.{Within};
 
+use image::Refusal;
 use lent_book::BookLengths;
 use lent_rows::Lengths;
+use ports::Terminal;
+use report::output::write_refusal;
 
 // How much is lent of the image, the rows, the books and the target.
 #[derive(Clone, Copy)]
@@ -32,5 +35,12 @@ pub fn nothing_lent() -> Held
         rows: Lengths { good: 0, faulty: 0 },
         books: BookLengths { lines: 0, pins: 0 },
         target: 0,
+    }
+}
+
+// Answers with a refusal's one line, unless a write failed before.
+pub fn tell(terminal: &mut Terminal, r: Refusal) {
+    if terminal.written.is_ok() {
+        terminal.written = write_refusal(&mut terminal.rt.stdout(), r);
     }
 }

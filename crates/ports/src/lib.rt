@@ -6,6 +6,8 @@ pub mod files;
 pub mod input;
 pub mod write;
 
+ghost use Rattle.std.specs.Prelude.{IsOk};
+
 use std::io;
 
 // The console's way in and out, and how writing its answers went: where a write failed nothing more is written, and the console ends.
@@ -16,7 +18,9 @@ pub struct Terminal {
 }
 
 // The way of a console that has not written anything yet.
-pub fn new_terminal(rt: HostRuntime) -> Terminal {
+pub fn new_terminal(rt: HostRuntime) -> Terminal
+    ensures { IsOk result.written }
+{
     Terminal {
         rt,
         written: Ok(()),
