@@ -14,8 +14,8 @@ import sys
 
 ROOT = pathlib.Path(__file__).resolve().parent.parent
 CRATES = ROOT / "crates"
-# from its name to its body, which begins on the same line where there is no contract
-FUNCTION = re.compile(r'^pub (extern "C" )?fn (\w+)(.*?)(?:^\{|(?<=[\w\])>]) \{$)', re.M | re.S)
+# a function or a method, from its name to its body, which begins on the same line where there is no contract
+FUNCTION = re.compile(r'^ *pub (extern "C" )?fn (\w+)(.*?)(?:^ *\{$|(?<=[\w\])>]) \{$)', re.M | re.S)
 ROW = re.compile(r"^\| \*\*(.+?)\*\* \|(.*)\|$", re.M)
 INNER = re.compile(r"^- inner: (.*)$", re.M)
 # a contract's promise: of a call on a drawing's text it goes by what that text is

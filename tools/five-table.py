@@ -47,7 +47,7 @@ def lines():
 
 def written():
     entries = list(lines())
-    return "\n".join([BEGIN, "const TABLE: [u8; %d] = [" % len(entries)] + entries + ["];", END])
+    return "\n".join([BEGIN, "static TABLE: [u8; %d] = [" % len(entries)] + entries + ["];", END])
 
 
 def main(words):

@@ -12,11 +12,10 @@ ghost use Rattle.find.specs.Book.{counted_says};
 ghost use Rattle.alter.specs.Alter.{both, alter_promise};
 
 use board::Sort;
-use find::Counted;
 use find::entries::then_book;
+use image::Refusal;
 use image::asked::check_line;
 use image::limits::Entry;
-use image::{Checked, Refusal};
 use put::is_unfit;
 use renew::bring_up;
 
@@ -28,17 +27,13 @@ pub fn alter(
     pins: &mut [Entry],
     line: usize,
     record: [u8; 10],
-) -> Counted
+) -> Result<usize, Refusal>
     ensures { Owes (alter_promise img.old (both book.old pins.old) line «record») (img.new ∷ book.new ∷ pins.new ∷ []) (counted_says result) }
 {
     let tested = then_book(check_line(img, line), Sort::Lines, book.len());
-    match then_book(tested, Sort::Pins, pins.len()) {
-        Checked::Refused(r) => Counted::Refused(r),
-        Checked::Good(counts) => {
-            if is_unfit(img, line, counts.inputs, &record) {
-                return Counted::Refused(Refusal::Alteration);
-            }
-            Counted::Entries(bring_up(img, counts, line, &record, book, pins))
-        }
+    let counts = then_book(tested, Sort::Pins, pins.len())?;
+    if is_unfit(img, line, counts.inputs, &record) {
+        return Err(Refusal::Alteration);
     }
+    Ok(bring_up(img, counts, line, &record, book, pins))
 }

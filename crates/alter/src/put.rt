@@ -13,14 +13,7 @@ use spans::copy;
 fn would_be_bad(new: &[u8], line: usize, inputs: usize) -> bool
     ensures { result ≡ would_be_bad new.now line inputs }
 {
-    let mut field = 0;
-    while field < 6 {
-        if is_bad_field(new, 0, line, inputs, field) {
-            return true;
-        }
-        field += 1;
-    }
-    false
+    (0..6).any(|field| is_bad_field(new, 0, line, inputs, field))
 }
 
 // Refusal 10.

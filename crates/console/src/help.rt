@@ -1,12 +1,10 @@
 // What uses nothing that is kept: the list of commands, and why a line can't be read.
 use ports::Terminal;
-use ports::write::write_plain;
 use words::command::Why;
 
 // help: the commands, on one line.
 pub fn write_help(terminal: &mut Terminal) {
-    write_plain(
-        terminal,
+    terminal.write(
         b"load HEX, open PATH, import PATH, save PATH, export PATH, image, lend rows G F, lend book N, put good HEX, put faulty HEX, put entry K NUMBER, lend pins N, put pin K NUMBER, check, rows PATTERN FAULT, judge PATTERN FAULT, find FAULT, book, pin book, alter LINE HEX, refresh LINE PATTERN, five NAMED VALUES FAULT, show good FROM, show faulty FROM, entries, pin entries, lend target N, target, read HEX, write, help; FAULT is LINE/STUCK or LINE.PIN/STUCK\n",
     );
 }
@@ -14,12 +12,12 @@ pub fn write_help(terminal: &mut Terminal) {
 // Why a line is no command.
 pub fn write_reason(terminal: &mut Terminal, why: Why) {
     match why {
-        Why::Empty => write_plain(terminal, b"? empty line\n"),
-        Why::Unknown => write_plain(terminal, b"? no such command\n"),
-        Why::Words => write_plain(terminal, b"? too few or too many words\n"),
-        Why::Number => write_plain(terminal, b"? not a number of 64 bits\n"),
-        Why::Fault => write_plain(terminal, b"? not a fault, as 4/0 or 4.0/1\n"),
-        Why::Hex => write_plain(terminal, b"? not HEX\n"),
-        Why::Path => write_plain(terminal, b"? not a path\n"),
+        Why::Empty => terminal.write(b"? empty line\n"),
+        Why::Unknown => terminal.write(b"? no such command\n"),
+        Why::Words => terminal.write(b"? too few or too many words\n"),
+        Why::Number => terminal.write(b"? not a number of 64 bits\n"),
+        Why::Fault => terminal.write(b"? not a fault, as 4/0 or 4.0/1\n"),
+        Why::Hex => terminal.write(b"? not HEX\n"),
+        Why::Path => terminal.write(b"? not a path\n"),
     }
 }

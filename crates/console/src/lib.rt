@@ -1,11 +1,10 @@
-// The console's commands, each group with what it uses alone.
+// The console's commands, a module for each group.
 
 #![tactic(auto)]
 
-pub mod answer;
-mod help;
+pub mod help;
 pub mod on_book;
-mod on_both;
-mod on_image;
+pub mod on_both;
+pub mod on_image;
 pub mod on_rows;
 pub mod on_target;

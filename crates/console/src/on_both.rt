@@ -1,36 +1,26 @@
 // The command that uses the image and both books.
-ghost use Rattle.std.specs.Prelude.{◌≡◌, length};
-
 use answers::alter_answer;
-use image::limits::Entry;
+use kept::Kept;
 use ports::Terminal;
-use ports::write::{write_out, write_plain};
-use text::line::blank_line;
 use words::hex::{bytes_of, unpack};
 
-// Room for a record.
-fn blank_record() -> [u8; 10]
-    ensures { 10 ≡ length result }
-{
-    [0u8; 10]
-}
+// How many bytes a record has.
+const RECORD: usize = 10;
 
 // alter: the HEX word is the record.
-pub fn write_alter(
-    terminal: &mut Terminal,
-    word: &[u8],
-    line: u64,
-    img: &mut [u8],
-    book: &mut [Entry],
-    pins: &mut [Entry],
-) {
-    if bytes_of(word) != 10 {
-        write_plain(terminal, b"? a record is 10 bytes\n");
+pub fn write_alter(terminal: &mut Terminal, word: &[u8], line: u64, kept: &mut Kept) {
+    if bytes_of(word) != RECORD {
+        terminal.write(b"? a record is 10 bytes\n");
         return;
     }
-    let mut record = blank_record();
+    let mut record = [0u8; RECORD];
     unpack(word, &mut record);
-    let mut out = blank_line();
-    let n = alter_answer(img, book, pins, line as usize, record, &mut out);
-    write_out(terminal, &out, n);
+    let answer = alter_answer(
+        kept.img.lent_mut(),
+        kept.book.lent_mut(),
+        kept.pins.lent_mut(),
+        line as usize,
+        record,
+    );
+    terminal.write(answer.as_slice());
 }

@@ -17,7 +17,9 @@ use Rattle.board.specs.declared.Condition.{Condition}
 use Rattle.board.specs.declared.Condition.TheVariants.{Having}
 use Rattle.image.specs.Image.{board_of}
 use Rattle.image.specs.Refusals.{first_refusal, Accepted}
+use Rattle.std.specs.Prelude.{Result}
 use Rattle.image.specs.Promise.{Promise, Owes}
+use Rattle.image.specs.declared.Refusal.{Refusal}
 use Rattle.image.specs.Calls.{fault_refusals}
 use Rattle.find.specs.Find.{pattern_of, find_promise}
 use Rattle.find.specs.Book.{book_refusals, book_promise}
@@ -26,7 +28,6 @@ use Rattle.alter.proofs.Laws.Runs.{by_sort}
 use Rattle.drawing.specs.Form.{Departs}
 use Rattle.drawing.specs.Image.{without_note, AllBytes}
 use Rattle.drawing.specs.Calls.{made_says, in_front, ByReading, read_promise, write_promise}
-use Rattle.drawing.specs.declared.Made.{Made}
 use Rattle.drawing.proofs.Laws.Settled.{departs_one}
 use Rattle.drawing.proofs.Calls.{read_pinned, write_read, read_write}
 use Rattle.demands.specs.Demands.{Call, TurnsAway, DifferSomewhere, SmallestTest, Has, entry_of, WholeBook, shown_in, BroughtUp}
@@ -86,7 +87,7 @@ right_ever_after {s} {old} {book} {said} {old_pins} {pins} {heard} owes e owed f
 pub departs_at_one_place : (t : List ℕ) (n m : ℕ) → Departs t n → Departs t m → n ≡ m
 departs_at_one_place = departs_one
 
-pub reading_settled : (t target : List ℕ) (a b : Made) (left later : List (List ℕ)) → ByReading t (λ is. Owes (read_promise is target) left (made_says a))
+pub reading_settled : (t target : List ℕ) (a b : Result ℕ Refusal) (left later : List (List ℕ)) → ByReading t (λ is. Owes (read_promise is target) left (made_says a))
     → ByReading t (λ is. Owes (read_promise is target) later (made_says b)) → (a ≡ b) × (left ≡ later)
 reading_settled = read_pinned
 

@@ -7,6 +7,7 @@ use mathlib.Core.Bool.{Bool, true, false, ◌||◌}
 use Prim.Native.Nat.{ℕ, ◌/◌, ◌%◌, ◌≤◌}
 use lib.Dec.{ltb}
 use lib.ListN.{length, get_or, take}
+use Rattle.std.specs.Prelude.{Result}
 use Rattle.board.specs.Lists.{◌among◌}
 use Rattle.board.specs.Limits.{most_lines, most_outputs}
 use Rattle.board.proofs.Lists.{way}
@@ -21,7 +22,6 @@ use Rattle.drawing.specs.Form.{text_of}
 use Rattle.drawing.specs.Image.{image_of, without_note, AllBytes}
 use Rattle.drawing.specs.Calls.{Reading, names, departs, ByReading, made_says, in_front, too_short, miscounts, read_refusals, write_refusals, read_promise, write_promise}
 use Rattle.drawing.proofs.Laws.ImageDrawn.{accepted_drawn}
-use Rattle.drawing.specs.declared.Made.{Made}
 use Rattle.drawing.proofs.Laws.WriteCall.{made_told}
 use Rattle.drawing.proofs.Laws.ImageBytes.{image_refusals_lem, image_board}
 use Rattle.drawing.proofs.Laws.ImageAgain.{image_again}
@@ -39,7 +39,7 @@ board_refused none none true r e = let is : r ≡ Target = cc in rw is (inr (inr
 board_refused none none false r e = never_none r (sym e)
 
 -- any two outcomes that the reader's promise allows are equal, since a text is one reading only
-pub read_pinned : (t target : List ℕ) (a b : Made) (left later : List (List ℕ)) → ByReading t (λ is. Owes (read_promise is target) left (made_says a))
+pub read_pinned : (t target : List ℕ) (a b : Result ℕ Refusal) (left later : List (List ℕ)) → ByReading t (λ is. Owes (read_promise is target) left (made_says a))
     → ByReading t (λ is. Owes (read_promise is target) later (made_says b)) → (a ≡ b) × (left ≡ later)
 read_pinned t target a b left later one other =
     let (is, owes, owed) = read_alike t (λ is. Owes (read_promise is target) left (made_says a)) (λ is. Owes (read_promise is target) later (made_says b)) one other in

@@ -1,23 +1,20 @@
 -- What the reader and the writer of drawings owe.
-use Rattle.std.specs.Prelude.{◌≡◌, List, [], ◌∷◌, ◌++◌, ◌||◌, ℕ, ltb, length, drop}
+use Rattle.std.specs.Prelude.{◌≡◌, List, [], ◌∷◌, ◌++◌, ◌||◌, ℕ, ltb, length, drop, Result}
 use Rattle.std.proofs.Math.Option.{Option, some}
 use Rattle.board.specs.Limits.{most_lines, most_outputs}
 use Rattle.board.specs.Board.{Board}
 use Rattle.image.specs.Image.{board_of}
 use Rattle.image.specs.Refusals.{given, outside, image_refusals}
-use Rattle.image.specs.Promise.{numbers, Promise}
+use Rattle.image.specs.Promise.{said_of, Promise}
 use Rattle.image.specs.Calls.{◌then◌}
 use Rattle.image.specs.declared.Refusal.{Refusal}
 use Rattle.image.specs.declared.Refusal.TheVariants.{Counts, Form, Target}
 use Rattle.drawing.specs.Form.{text_of, Drawn, Departs}
 use Rattle.drawing.specs.Image.{image_of}
-use Rattle.drawing.specs.declared.Made.{Made}
-use Rattle.drawing.specs.declared.Made.TheVariants.{Bytes, Refused}
 
 -- 0 and the result's length, or a refusal
-abbrev pub made_says : Made → List ℕ
-made_says (Bytes n) = 0 ∷ n ∷ []
-made_says (Refused r) = numbers r
+abbrev pub made_says : Result ℕ Refusal → List ℕ
+made_says = said_of (λ n. n ∷ [])
 
 -- 14: the target is too short for what is made
 abbrev pub too_short : List ℕ → List ℕ → Option Refusal

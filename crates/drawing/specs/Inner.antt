@@ -1,30 +1,27 @@
 -- What inner functions ask of each other and leave: no call's promise rests on it.
-use Rattle.std.specs.Prelude.{◌≡◌, List, [], ◌∷◌, ◌++◌, ◌⊎◌, cond, ℕ, zero, suc, ◌+◌, ◌*◌, ◌-◌, ◌≤◌, ◌<◌, ltb, length, get_or, take, drop, replicate}
+use Rattle.std.specs.Prelude.{◌≡◌, Option, Some, None, Result, Ok, Err, List, [], ◌∷◌, ◌++◌, ◌⊎◌, cond, ℕ, zero, suc, ◌+◌, ◌*◌, ◌-◌, ◌≤◌, ◌<◌, ltb, length, get_or, take, drop, replicate, map}
+use denote.Ref.{Bor}
 use Rattle.board.specs.Lists.{text, ◌among◌}
 use Rattle.text.specs.Text.{spelled, decimal, each}
 use Rattle.board.specs.Limits.{most_lines, most_outputs}
 use Rattle.board.specs.Board.{Record, Board, inputs}
 use Rattle.board.specs.Fine.{first_tie}
-use Rattle.image.specs.Image.{full_distance}
 use Rattle.image.specs.Refusals.{image_refusals}
 use Rattle.image.specs.Promise.{Promise}
 use Rattle.image.specs.Calls.{◌then◌}
 use Rattle.drawing.specs.Calls.{too_short, making}
 use Rattle.drawing.specs.Form.{input_text, output_text, gate_text, text_of, last_number, Worded, Drawn, Departs}
 use Rattle.drawing.specs.Image.{word_bytes, lines_bytes}
-use Rattle.drawing.specs.declared.choose.Choice.{Choice}
-use Rattle.drawing.specs.declared.choose.Choice.TheVariants.{Took, Stop}
+use Rattle.drawing.specs.declared.stop.Stop.{Stop}
+use Rattle.drawing.specs.declared.choose.Took.{Took}
 use Rattle.drawing.specs.declared.number.Number.{Number}
 use Rattle.drawing.specs.declared.form.Tally.{Tally}
-use Rattle.drawing.specs.declared.form.Formed.{Formed}
-use Rattle.drawing.specs.declared.form.Formed.TheVariants.{Named, DepartsAt}
+use Rattle.drawing.specs.declared.form.Named.{Named}
 use Rattle.drawing.specs.declared.line.Line.{Line}
-use Rattle.drawing.specs.declared.line.Line.TheVariants.{Input, Output, Gate, LineStop}
-use Rattle.drawing.specs.declared.pins.Four.{Four}
+use Rattle.drawing.specs.declared.line.Line.TheVariants.{Input, Output, Gate}
 use Rattle.drawing.specs.declared.pins.PinFound.{PinFound}
-use Rattle.drawing.specs.declared.pins.PinFound.TheVariants.{Last, More, PinStop}
+use Rattle.drawing.specs.declared.pins.PinFound.TheVariants.{Last, More}
 use Rattle.drawing.specs.declared.pins.PinsFound.{PinsFound}
-use Rattle.drawing.specs.declared.pins.PinsFound.TheVariants.{Found, PinsStop}
 
 -- the forms of the pieces between a drawing's numbers; from 5 on the words of kinds 1 to 10, of which the last two end their statements
 unfoldable pub piece_forms : List (List ℕ)
@@ -45,10 +42,6 @@ piece_forms =
     ∷ text "TIE0()\n"
     ∷ text "TIE1()\n"
     ∷ []
-
--- the same as the code's table has them, ten bytes each
-unfoldable pub piece_rows : List ℕ
-piece_rows = text "INPUT(n#)\nOUTPUT(n  n# =      )\n        , n       BUFF(n    NOT(n     AND(n     NAND(n    OR(n      NOR(n     XOR(n     XNOR(n    TIE0()\n   TIE1()\n   "
 
 abbrev pub piece_count : ℕ
 piece_count = 15
@@ -76,15 +69,30 @@ pub record Common (rest word : List ℕ) (m : ℕ) : Type 0 where
   pub same : take m word ≡ take m rest
   pub most : m < length word → take (suc m) word ≡ take (suc m) rest → ⊥
 
+-- the forms of the pieces from one number up to another
+abbrev pub Run : ℕ → ℕ → List (Bor (List ℕ)) → Type 0
+Run from to forms = (from < to) × (to ≤ piece_count) × (map (λ (form : Bor (List ℕ)). form.now) forms ≡ take (to - from) (drop from piece_forms))
+
+-- which of them, told by its number
+abbrev pub numbered : ℕ → Result Took Stop → Result Took Stop
+numbered from (Ok took) = Ok (record { which = from + took.which; length = took.length })
+numbered from (Err stop) = Err stop
+
 -- which of some pieces a text begins with, and how long it is; or how many bytes it shares with one
-abbrev pub Chosen : ℕ → ℕ → ℕ → List ℕ → Choice → Type 0
-Chosen from to k rest (Took which n) = (from ≤ which) × (which < to) × (n ≡ length (piece which k)) × (n ≤ length rest) × (rest ≡ piece which k ++ drop n rest)
-Chosen from to k rest (Stop m) = NoPiece from to k rest m
+abbrev pub Chosen : ℕ → ℕ → ℕ → List ℕ → Result Took Stop → Type 0
+Chosen from to k rest (Ok took) =
+    (from ≤ took.which) × (took.which < to) × (took.length ≡ length (piece took.which k)) × (took.length ≤ length rest) × (rest ≡ piece took.which k ++ drop took.length rest)
+Chosen from to k rest (Err stop) = NoPiece from to k rest stop.along
 
 -- a byte that is a decimal digit
 pub record Digit (c : ℕ) : Type 0 where
   pub low : 48 ≤ c
   pub high : c ≤ 57
+
+-- the value of a byte that is a digit
+abbrev pub IsDigit : ℕ → Option ℕ → Type 0
+IsDigit c (Some d) = (d < 10) × (c ≡ 48 + d)
+IsDigit c None = Digit c → ⊥
 
 -- a number can't go on with what stands behind it: that is no digit, or it is 0, or it would be over 65,535
 abbrev pub Ends : ℕ → List ℕ → Type 0
@@ -98,9 +106,10 @@ pub record Leads (rest : List ℕ) (n : Number) : Type 0 where
   pub is : rest ≡ decimal n.value ++ drop n.length rest
   pub ends : Ends n.value (drop n.length rest)
 
--- the number that a text begins with, and how long it is; its length is 0 where there is none
-abbrev pub Counted : List ℕ → Number → Type 0
-Counted rest n = ((c : ℕ) (x : List ℕ) → n.length ≡ 0 → rest ≡ c ∷ x → Digit c → ⊥) × (0 < n.length → Leads rest n)
+-- the number that a text begins with, and how long it is; there is none where the text does not begin with a digit
+abbrev pub Counted : List ℕ → Option Number → Type 0
+Counted rest (Some n) = Leads rest n
+Counted rest None = (c : ℕ) (x : List ℕ) → rest ≡ c ∷ x → Digit c → ⊥
 
 -- the sets that the form is made of: a piece out of some, and then the texts that may follow it
 abbrev pub PieceThen : ℕ → ℕ → ℕ → (ℕ → List ℕ → Type 0) → List ℕ → Type 0
@@ -136,17 +145,13 @@ pins_rest [] = []
 pins_rest (p ∷ []) = decimal p ++ piece 3 0
 pins_rest (p ∷ q ∷ qs) = decimal p ++ piece 4 0 ++ pins_rest (q ∷ qs)
 
--- four pins, unused ones 0
-abbrev pub four : Four → List ℕ
-four p = p.first ∷ p.second ∷ p.third ∷ p.fourth ∷ []
-
--- the pins that a text begins with, up to so many
-pub record HasPins (rest : List ℕ) (left : ℕ) (ps : List ℕ) (pins : Four) (count n : ℕ) : Type 0 where
+-- the pins that a text begins with, up to so many, as four of which unused ones are 0
+pub record HasPins (rest : List ℕ) (left : ℕ) (ps pins : List ℕ) (count n : ℕ) : Type 0 where
   pub some_pin : 1 ≤ length ps
   pub few : length ps ≤ left
   pub numbers : (p : ℕ) → p among ps → p ≤ last_number
   pub counts : count ≡ length ps
-  pub holds : four pins ≡ take 4 (ps ++ replicate 4 0)
+  pub holds : pins ≡ take 4 (ps ++ replicate 4 0)
   pub inside : n ≤ length rest
   pub is : rest ≡ pins_rest ps ++ drop n rest
 
@@ -158,14 +163,14 @@ pub record GoesOn (rest : List ℕ) (left p n : ℕ) : Type 0 where
   pub is : rest ≡ decimal p ++ piece 4 0 ++ drop n rest
   pub on : (m : ℕ) → Stops (Pins (left - 1)) (drop n rest) m → Stops (Pins left) rest (n + m)
 
-abbrev pub PinRead : List ℕ → ℕ → PinFound → Type 0
-PinRead rest left (Last p n) = (p ≤ last_number) × (n ≤ length rest) × (rest ≡ decimal p ++ piece 3 0 ++ drop n rest)
-PinRead rest left (More p n) = GoesOn rest left p n
-PinRead rest left (PinStop m) = Stops (Pins left) rest m
+abbrev pub PinRead : List ℕ → ℕ → Result PinFound Stop → Type 0
+PinRead rest left (Ok (Last p n)) = (p ≤ last_number) × (n ≤ length rest) × (rest ≡ decimal p ++ piece 3 0 ++ drop n rest)
+PinRead rest left (Ok (More p n)) = GoesOn rest left p n
+PinRead rest left (Err stop) = Stops (Pins left) rest stop.along
 
-abbrev pub PinsRead : List ℕ → ℕ → PinsFound → Type 0
-PinsRead rest left (Found pins count n) = (ps : List ℕ) × HasPins rest left ps pins count n
-PinsRead rest left (PinsStop m) = Stops (Pins left) rest m
+abbrev pub PinsRead : List ℕ → ℕ → Result PinsFound Stop → Type 0
+PinsRead rest left (Ok found) = (ps : List ℕ) × HasPins rest left ps found.pins found.count found.length
+PinsRead rest left (Err stop) = Stops (Pins left) rest stop.along
 
 -- a statement: an input's, an output's or a gate's; its section, what it may hold, and its text, where the next input or gate is numbered k
 pub data Statement : Type 0 where
@@ -201,27 +206,27 @@ pub record Begins (from k : ℕ) (rest : List ℕ) (st : Statement) (n : ℕ) : 
   pub is : rest ≡ statement_text k st ++ drop n rest
 
 -- the statement that a text begins with, or where those that may follow stop
-abbrev pub Lined : ℕ → ℕ → List ℕ → Line → Type 0
-Lined from k rest (Input n) = Begins from k rest input n
-Lined from k rest (Output o n) = Begins from k rest (output o) n
-Lined from k rest (Gate kind count pins n) =
-    (ps : List ℕ) × Begins from k rest (gate (record { kind = kind; pins = ps })) n × (count ≡ length ps) × (four pins ≡ take 4 (ps ++ replicate 4 0))
-Lined from k rest (LineStop m) = Stops (Statements from k) rest m
+abbrev pub Lined : ℕ → ℕ → List ℕ → Result Line Stop → Type 0
+Lined from k rest (Ok (Input n)) = Begins from k rest input n
+Lined from k rest (Ok (Output o n)) = Begins from k rest (output o) n
+Lined from k rest (Ok (Gate kind count pins n)) =
+    (ps : List ℕ) × Begins from k rest (gate (record { kind = kind; pins = ps })) n × (count ≡ length ps) × (pins ≡ take 4 (ps ++ replicate 4 0))
+Lined from k rest (Err stop) = Stops (Statements from k) rest stop.along
 
 -- the same from an output's number on, and from a gate's word on
-abbrev pub OutputAt : List ℕ → ℕ → Line → Type 0
-OutputAt rest at (Output o n) = (o ≤ last_number) × (n ≤ length rest) × (drop at rest ≡ decimal o ++ piece 3 0 ++ drop n rest)
-OutputAt rest at (LineStop m) = (j : ℕ) × (m ≡ at + j) × Stops (Pins 1) (drop at rest) j
-OutputAt rest at (Input n) = ⊥
-OutputAt rest at (Gate kind count pins n) = ⊥
+abbrev pub OutputAt : List ℕ → ℕ → Result Line Stop → Type 0
+OutputAt rest at (Ok (Output o n)) = (o ≤ last_number) × (n ≤ length rest) × (drop at rest ≡ decimal o ++ piece 3 0 ++ drop n rest)
+OutputAt rest at (Ok (Input n)) = ⊥
+OutputAt rest at (Ok (Gate kind count pins n)) = ⊥
+OutputAt rest at (Err stop) = (j : ℕ) × (stop.along ≡ at + j) × Stops (Pins 1) (drop at rest) j
 
-abbrev pub GateAt : List ℕ → ℕ → Line → Type 0
-GateAt rest at (Gate kind count pins n) =
-    (ps : List ℕ) × Worded (record { kind = kind; pins = ps }) × (count ≡ length ps) × (four pins ≡ take 4 (ps ++ replicate 4 0)) × (n ≤ length rest)
+abbrev pub GateAt : List ℕ → ℕ → Result Line Stop → Type 0
+GateAt rest at (Ok (Gate kind count pins n)) =
+    (ps : List ℕ) × Worded (record { kind = kind; pins = ps }) × (count ≡ length ps) × (pins ≡ take 4 (ps ++ replicate 4 0)) × (n ≤ length rest)
     × (drop at rest ≡ piece (4 + kind) 0 ++ pins_rest ps ++ drop n rest)
-GateAt rest at (LineStop m) = (j : ℕ) × (m ≡ at + j) × Stops GateRest (drop at rest) j
-GateAt rest at (Input n) = ⊥
-GateAt rest at (Output o n) = ⊥
+GateAt rest at (Ok (Input n)) = ⊥
+GateAt rest at (Ok (Output o n)) = ⊥
+GateAt rest at (Err stop) = (j : ℕ) × (stop.along ≡ at + j) × Stops GateRest (drop at rest) j
 
 -- an input's record; and the board with one statement more
 abbrev pub bare : Record
@@ -238,19 +243,9 @@ pub record Sofar (from : ℕ) (b : Board) : Type 0 where
   pub no_output : from ≡ 0 → b.outs ≡ []
   pub no_gate : from ≤ 1 → inputs b ≡ length b.lines
 
--- each of four pins is a number of two bytes
-pub record Small (p : Four) : Type 0 where
-  pub first : p.first < 65536
-  pub second : p.second < 65536
-  pub third : p.third < 65536
-  pub fourth : p.fourth < 65536
-
--- the room of the longest image without a note, and of its outputs
-abbrev pub image_room : ℕ
-image_room = full_distance most_outputs most_lines
-
-abbrev pub outputs_room : ℕ
-outputs_room = 2 * most_outputs
+-- each of some pins is a number of two bytes
+abbrev pub Small : List ℕ → Type 0
+Small pins = (i : ℕ) → get_or pins i 0 < 65536
 
 -- what is kept of a board within the limits: its records and its outputs
 pub record Kept (b : Board) (records outputs : List ℕ) : Type 0 where
@@ -264,9 +259,9 @@ pub record Holds (b : Board) (lines outs : ℕ) (records outputs : List ℕ) : T
   pub kept : Kept b records outputs
 
 -- what a text is: the drawing of such a board, or where it departs
-abbrev pub FormRead : List ℕ → List ℕ → List ℕ → Formed → Type 0
-FormRead t records outputs (Named lines outs) = (b : Board) × Drawn b × (text_of b ≡ t) × Holds b lines outs records outputs
-FormRead t records outputs (DepartsAt n) = Departs t n
+abbrev pub FormRead : List ℕ → List ℕ → List ℕ → Result Named Stop → Type 0
+FormRead t records outputs (Ok named) = (b : Board) × Drawn b × (text_of b ≡ t) × Holds b named.lines named.outputs records outputs
+FormRead t records outputs (Err stop) = Departs t stop.along
 
 -- an image held to the rules of a board
 abbrev pub held_promise : List ℕ → List ℕ → Promise
@@ -276,28 +271,24 @@ held_promise s target = making (image_refusals s then too_short s target) s targ
 abbrev pub ToldBy : Line → Statement → Type 0
 ToldBy (Input n) st = st ≡ input
 ToldBy (Output o n) st = st ≡ output o
-ToldBy (Gate kind count pins n) st = (ps : List ℕ) × (st ≡ gate (record { kind = kind; pins = ps })) × (count ≡ length ps) × (four pins ≡ take 4 (ps ++ replicate 4 0))
-ToldBy (LineStop m) st = ⊥
+ToldBy (Gate kind count pins n) st = (ps : List ℕ) × (st ≡ gate (record { kind = kind; pins = ps })) × (count ≡ length ps) × (pins ≡ take 4 (ps ++ replicate 4 0))
 
 -- how long it is, and what is counted behind it
 abbrev pub length_of : Line → ℕ
 length_of (Input n) = n
 length_of (Output o n) = n
 length_of (Gate kind count pins n) = n
-length_of (LineStop m) = 0
 
 abbrev pub tallied : Tally → Line → Tally
 tallied c (Input n) = record { section = 0; lines = c.lines + 1; outputs = c.outputs }
 tallied c (Output o n) = record { section = 1; lines = c.lines; outputs = c.outputs + 1 }
 tallied c (Gate kind count pins n) = record { section = 2; lines = c.lines + 1; outputs = c.outputs }
-tallied c (LineStop m) = c
 
 -- its numbers have room where they are kept
 abbrev pub Storable : Line → Type 0
 Storable (Output o n) = o < 65536
 Storable (Gate kind count pins n) = (kind < 256) × (count < 256) × Small pins
 Storable (Input n) = 0 < 1
-Storable (LineStop m) = 0 < 1
 
 -- one statement more is kept: whatever board stood there stands there with the statement
 abbrev pub KeepsMore : Line → Tally → List ℕ → List ℕ → List ℕ → List ℕ → Type 0

@@ -3,3 +3,4 @@ pub mod Image
 pub mod Calls
 pub mod Inner
 pub mod Statements
+pub mod Made

@@ -2,8 +2,6 @@
 use Rattle.std.specs.Prelude.{List, [], ◌++◌, cond, ℕ, zero, suc, ◌+◌, ◌-◌, ◌≤◌, ◌<◌, ltb, length, get_or}
 use Rattle.board.specs.Board.{Board, record_of, inputs}
 use Rattle.image.specs.Image.{line_count, output_count, board_of}
-use Rattle.image.specs.Inner.{Known}
-use Rattle.image.specs.declared.Counts.{Counts}
 use Rattle.drawing.specs.Form.{input_text, output_text, gate_text}
 
 -- statement j of a board's text: inputs, then outputs, then gates
@@ -30,8 +28,3 @@ statement_room = 288
 pub record GateOf (s : List ℕ) (i : ℕ) : Type 0 where
   pub gate : inputs (board_of s) ≤ i
   pub inside : i < line_count s
-
--- j is a statement of an accepted image, whose counts are known
-pub record StatementOf (s : List ℕ) (c : Counts) (j : ℕ) : Type 0 where
-  pub known : Known s c
-  pub one : j < statement_count s

@@ -1,8 +1,8 @@
 // The number that a text goes on with.
 ghost use Rattle.std.specs.Prelude.{◌≡◌, ◌+◌, ◌<◌};
-ghost use Rattle.drawing.specs.Inner.{Digit, Counted};
+ghost use Rattle.drawing.specs.Inner.{Digit, IsDigit, Counted};
 
-// A number and how long it is; its length is 0 where there is none.
+// A number and how long it is.
 #[derive(Clone, Copy)]
 pub struct Number {
     pub value: usize,
@@ -12,32 +12,36 @@ pub struct Number {
 // The largest number of an output or a pin.
 const LAST: usize = 65535;
 
-// The value of a digit, 10 or more for another byte.
-fn digit(x: u8) -> usize
-    ensures { (result < 10 → x ≡ 48 + result) × (Digit x → result < 10) }
+// The value of a digit: `to_digit` is a character's, and these are bytes.
+fn digit(x: u8) -> Option<usize>
+    ensures { IsDigit x result }
 {
-    if 48 <= x { (x - 48) as usize } else { 10 }
+    if x.is_ascii_digit() {
+        Some((x - b'0') as usize)
+    } else {
+        None
+    }
 }
 
 // Reads a number without leading zeros as far as it goes, up to the largest.
-pub fn read_number(rest: &[u8]) -> Number
+pub fn read_number(rest: &[u8]) -> Option<Number>
     ensures { Counted rest.now result }
 {
     let mut value = 0;
-    let mut i = 0;
-    while i < rest.len() {
-        let next = digit(rest[i]);
-        if 10 <= next {
-            break;
-        }
-        if (0 < i) & (value == 0) {
+    let mut length = 0;
+    for x in rest {
+        let Some(next) = digit(*x) else { break };
+        if 0 < length && value == 0 {
             break;
         }
         if LAST < 10 * value + next {
             break;
         }
         value = 10 * value + next;
-        i += 1;
+        length += 1;
     }
-    Number { value, length: i }
+    if length == 0 {
+        return None;
+    }
+    Some(Number { value, length })
 }

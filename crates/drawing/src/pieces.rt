@@ -1,47 +1,63 @@
 // The pieces of the form between its numbers.
-ghost use Rattle.std.specs.Prelude.{◌≡◌, [], ◌≤◌, ◌<◌, length, get_or};
-ghost use Rattle.text.specs.Text.{Written};
-ghost use Rattle.drawing.specs.Inner.{piece_forms, piece_rows, piece, piece_count, piece_room};
+ghost use Rattle.std.specs.Prelude.{◌≡◌, [], ◌+◌, ◌≤◌, ◌<◌, length, get_or};
+ghost use Rattle.board.specs.Limits.{last_kind};
+ghost use Rattle.drawing.specs.Inner.{piece_forms, pins_to, Run};
 
-use text::form::spell;
+// An input, and what stands before an output and before a gate; # is the number of the next input or gate.
+pub const INPUT: &[u8] = b"INPUT(n#)\n";
 
-// The forms of the pieces, ten bytes each, and how long each is.
-const FORMS: [u8; 150] =
-    *b"INPUT(n#)\nOUTPUT(n  n# =      )\n        , n       BUFF(n    NOT(n     AND(n     NAND(n    OR(n      NOR(n     XOR(n     XNOR(n    TIE0()\n   TIE1()\n   ";
+pub const OUTPUT: &[u8] = b"OUTPUT(n";
 
-const LENGTHS: [u8; 15] = [10, 8, 5, 2, 3, 6, 5, 5, 6, 4, 5, 5, 6, 7, 7];
+pub const GATE: &[u8] = b"n# = ";
 
-// The pieces behind which the words stand by their kinds; from that of the first tie on a word ends its statement, and there are so many pieces.
-pub const BEFORE_WORDS: usize = 4;
+// How statements begin, by section.
+const STATEMENTS: [&[u8]; 3] = [INPUT, OUTPUT, GATE];
 
-pub const FIRST_WORD: usize = BEFORE_WORDS + 1;
+// What stands behind the last number, and between two pins.
+pub const CLOSE: &[u8] = b")\n";
 
-pub const FIRST_TIE: usize = 13;
+pub const NEXT_PIN: &[u8] = b", n";
 
-pub const END: usize = 15;
+// What stands behind a pin.
+const BEHIND_PIN: [&[u8]; 2] = [CLOSE, NEXT_PIN];
 
-// The table of forms.
-fn the_forms() -> [u8; 150]
-    ensures { result ≡ piece_rows }
+// The gate words by kind, from 1 on, as records number the kinds; from that of the first tie on a word ends its statement.
+pub const WORDS: [&[u8]; 10] = [
+    b"BUFF(n",
+    b"NOT(n",
+    b"AND(n",
+    b"NAND(n",
+    b"OR(n",
+    b"NOR(n",
+    b"XOR(n",
+    b"XNOR(n",
+    b"TIE0()\n",
+    b"TIE1()\n",
+];
+
+// A number, as kinds are in a record.
+pub const FIRST_TIE: usize = 9;
+
+// How the statements of a section and of later ones begin.
+pub fn statements_from(section: usize) -> &'static [&'static [u8]]
+    requires { section < 3 }
+    ensures { Run section 3 result.now }
 {
-    FORMS
+    &STATEMENTS[section..]
 }
 
-// How long the form of a piece is.
-fn length_of(which: usize) -> usize
-    requires { which < piece_count }
-    ensures { (result ≡ length (get_or piece_forms which [])) × (result ≤ 10) }
+// What may stand behind one of up to so many pins: another one where it has room.
+pub fn behind_pin(left: usize) -> &'static [&'static [u8]]
+    requires { 0 < left }
+    ensures { Run 3 (pins_to left) result.now }
 {
-    LENGTHS[which] as usize
+    &BEHIND_PIN[..left.min(2)]
 }
 
-// Puts a piece into a buffer, where the next input or gate is numbered k, and gives how long it is.
-pub fn put_piece(which: usize, k: usize, out: &mut [u8]) -> usize
-    requires { (which < piece_count) × (piece_room ≤ length out.old) }
-    ensures { Written result out.new (piece which k) }
+// The word of a kind.
+pub fn word_of(kind: usize) -> &'static [u8]
+    requires { (1 ≤ kind) × (kind ≤ last_kind) }
+    ensures { (result.now ≡ get_or piece_forms (4 + kind) []) × (length result.now ≤ 12) }
 {
-    let forms = the_forms();
-    let from = 10 * which;
-    let to = from + length_of(which);
-    spell(&forms[from..to], &[k as u64], out)
+    WORDS[kind - 1]
 }

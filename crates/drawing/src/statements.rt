@@ -1,150 +1,151 @@
-// The statements of a drawing: each made in a buffer of its own, measured, and put into a target.
-ghost use Rattle.std.specs.Prelude.{◌≡◌, ◌++◌, ◌+◌, ◌*◌, ◌≤◌, ◌<◌, length, take, drop};
+// The statements of a drawing: each made by itself, measured, and put into a target.
+ghost use Rattle.std.specs.Prelude.{◌≡◌, [], ◌∷◌, ◌++◌, ◌+◌, ◌*◌, ◌≤◌, ◌<◌, length, take, drop};
 ghost use Rattle.board.specs.Board.{record_of};
 ghost use Rattle.image.specs.Bytes.{word_at};
 ghost use Rattle.image.specs.Image.{record_place, board_of};
-ghost use Rattle.image.specs.Refusals.{Accepted};
-ghost use Rattle.image.specs.Inner.{Known};
-ghost use Rattle.text.specs.Text.{Written, decimal};
+ghost use Rattle.image.specs.Refusals.{Accepted as IsAccepted};
+ghost use Rattle.text.specs.Text.{decimal, spelled};
+ghost use Rattle.drawing.specs.Made.{made};
 ghost use Rattle.drawing.specs.Form.{output_text, gate_text, text_of};
 ghost use Rattle.drawing.specs.Calls.{in_front};
-ghost use Rattle.drawing.specs.Inner.{piece, piece_count, piece_room};
-ghost use Rattle.drawing.specs.Statements.{statement_of, statement_room, GateOf, StatementOf};
+ghost use Rattle.drawing.specs.Inner.{piece_room};
+ghost use Rattle.drawing.specs.Statements.{statement_of, statement_count, statement_room, GateOf};
 
-use crate::pieces::{BEFORE_WORDS, put_piece};
-use image::Counts;
+use crate::made::{ROOM, StatementText};
+use crate::pieces::{CLOSE, GATE, INPUT, NEXT_PIN, OUTPUT, word_of};
+use image::accepted::Accepted;
 use image::numbers::{byte, word};
 use image::outputs::output;
 use image::pins::pin_count;
 use image::trailer::record_place;
 use spans::copy;
+use text::form::spell;
 use text::put::put_number;
-
-// The buffer that a statement is made in.
-const ROOM: usize = 288;
 
 // The room that a piece gets.
 const PIECE: usize = 32;
 
-// The pieces: an input, before an output, before a gate, behind the last number, and before another pin.
-const INPUT: usize = 0;
+impl StatementText {
+    // Nothing yet.
+    fn blank() -> StatementText
+        ensures { (made result ≡ []) × (result.length ≡ 0) }
+    {
+        let bytes = [0u8; ROOM];
+        StatementText { bytes, length: 0 }
+    }
 
-const OUTPUT: usize = 1;
+    // Adds a piece.
+    fn add_piece(&mut self, form: &[u8], k: usize)
+        requires { (length form.now ≤ 12) × (self.old.length + piece_room ≤ statement_room) }
+        ensures { (made self.new ≡ made self.old ++ spelled form.now (k ∷ [])) × (self.new.length ≤ self.old.length + piece_room) }
+    {
+        let at = self.length;
+        self.length = at + spell(form, &[k as u64], &mut self.bytes[at..at + PIECE]);
+    }
 
-const GATE: usize = 2;
-
-const CLOSE: usize = 3;
-
-const NEXT_PIN: usize = 4;
-
-// Puts a piece behind the first `at` bytes of a buffer, and gives where it ends.
-fn add_piece(which: usize, k: usize, out: &mut [u8], at: usize) -> usize
-    requires { (which < piece_count) × (at + piece_room ≤ length out.old) }
-    ensures { (at ≤ result) × (result ≤ at + piece_room) × (take result out.new ≡ take at out.old ++ piece which k) }
-{
-    let end = at + PIECE;
-    at + put_piece(which, k, &mut out[at..end])
+    // Adds a number.
+    fn add_number(&mut self, n: usize)
+        requires { self.old.length + 20 ≤ statement_room }
+        ensures { (made self.new ≡ made self.old ++ decimal n) × (self.new.length ≤ self.old.length + 20) }
+    {
+        self.length = put_number(n as u64, &mut self.bytes, self.length);
+    }
 }
 
-// Puts the number on a line's pin.
-fn add_pin(img: &[u8], line: usize, pin: usize, out: &mut [u8], at: usize) -> usize
-    requires { (line < 65536) × (pin < 4) × (at + 20 ≤ length out.old) }
-    ensures { (at ≤ result) × (result ≤ at + 20) × (take result out.new ≡ take at out.old ++ decimal (word_at img.now (record_place img.now line + 2 + 2 * pin))) }
+// The number on a line's pin.
+fn pin_of(img: &[u8], line: usize, pin: usize) -> usize
+    requires { (line < 65536) × (pin < 4) }
+    ensures { result ≡ word_at img.now (record_place img.now line + 2 + 2 * pin) }
 {
-    let place = record_place(img, line) + 2 + 2 * pin;
-    put_number(word(img, place) as u64, out, at)
+    word(img, record_place(img, line) + 2 + 2 * pin)
 }
 
-// Makes a gate's statement, and gives how long it is.
-fn put_gate(img: &[u8], line: usize, out: &mut [u8]) -> usize
-    requires { Accepted img.now × GateOf img.now line × (statement_room ≤ length out.old) }
-    ensures { Written result out.new (gate_text line (record_of (board_of img.now) line)) }
+// A gate's statement.
+fn gate(img: &[u8], line: usize) -> StatementText
+    requires { IsAccepted img.now × GateOf img.now line }
+    ensures { made result ≡ gate_text line (record_of (board_of img.now) line) }
 {
     let kind = byte(img, record_place(img, line));
     let pins = pin_count(img, line);
-    let named = add_piece(GATE, line, out, 0);
-    let opened = add_piece(BEFORE_WORDS + kind, line, out, named);
+    let mut made = StatementText::blank();
+    made.add_piece(GATE, line);
+    made.add_piece(word_of(kind), line);
     if pins == 0 {
-        return opened;
+        return made;
     }
-    let mut at = add_pin(img, line, 0, out, opened);
-    let mut pin = 1;
-    while pin < pins {
-        at = add_piece(NEXT_PIN, line, out, at);
-        at = add_pin(img, line, pin, out, at);
-        pin += 1;
+    made.add_number(pin_of(img, line, 0));
+    for pin in 1..pins {
+        made.add_piece(NEXT_PIN, line);
+        made.add_number(pin_of(img, line, pin));
     }
-    add_piece(CLOSE, line, out, at)
+    made.add_piece(CLOSE, line);
+    made
 }
 
-// Makes the statement of an output.
-fn put_output(line: usize, out: &mut [u8]) -> usize
-    requires { statement_room ≤ length out.old }
-    ensures { Written result out.new (output_text line) }
+// The statement of an output.
+fn output_statement(line: usize) -> StatementText
+    ensures { made result ≡ output_text line }
 {
-    let opened = add_piece(OUTPUT, line, out, 0);
-    let numbered = put_number(line as u64, out, opened);
-    add_piece(CLOSE, line, out, numbered)
+    let mut made = StatementText::blank();
+    made.add_piece(OUTPUT, line);
+    made.add_number(line);
+    made.add_piece(CLOSE, line);
+    made
 }
 
-// Makes statement j: inputs, then outputs, then gates.
-fn put_statement(img: &[u8], counts: Counts, j: usize, out: &mut [u8]) -> usize
-    requires { StatementOf img.now counts j × (statement_room ≤ length out.old) }
-    ensures { Written result out.new (statement_of (board_of img.now) j) }
+// Statement j: inputs, then outputs, then gates.
+fn statement(board: Accepted, j: usize) -> StatementText
+    requires { j < statement_count board.img.now }
+    ensures { made result ≡ statement_of (board_of board.entry.img.now) j }
 {
+    let counts = board.counts;
     if j < counts.inputs {
-        return put_piece(INPUT, j, out);
+        let mut made = StatementText::blank();
+        made.add_piece(INPUT, j);
+        return made;
     }
     if j < counts.inputs + counts.outputs {
-        return put_output(output(img, j - counts.inputs), out);
+        return output_statement(output(board.img, j - counts.inputs));
     }
-    put_gate(img, j - counts.outputs, out)
+    gate(board.img, j - counts.outputs)
 }
 
 // How long statement j is.
-fn statement_length(img: &[u8], counts: Counts, j: usize) -> usize
-    requires { StatementOf img.now counts j }
-    ensures { (result ≡ length (statement_of (board_of img.now) j)) × (result ≤ statement_room) }
+fn statement_length(board: Accepted, j: usize) -> usize
+    requires { j < statement_count board.img.now }
+    ensures { (result ≡ length (statement_of (board_of board.entry.img.now) j)) × (result ≤ statement_room) }
 {
-    let mut line = [0u8; ROOM];
-    put_statement(img, counts, j, &mut line)
+    statement(board, j).length
 }
 
 // Puts statement j behind the first `at` bytes of a target, which keeps its other bytes, and gives where it ends.
-fn add_statement(img: &[u8], counts: Counts, j: usize, target: &mut [u8], at: usize) -> usize
-    requires { StatementOf img.now counts j × (at + length (statement_of (board_of img.now) j) ≤ length target.old) }
-    ensures { (result ≡ at + length (statement_of (board_of img.now) j)) × (target.new ≡ take at target.old ++ statement_of (board_of img.now) j ++ drop result target.old) }
+fn add_statement(board: Accepted, j: usize, target: &mut [u8], at: usize) -> usize
+    requires { (j < statement_count board.img.now) × (at + length (statement_of (board_of board.img.now) j) ≤ length target.old) }
+    ensures { let b = board_of board.entry.img.now in (result ≡ at + length (statement_of b j)) × (target.new ≡ take at target.old ++ statement_of b j ++ drop result target.old) }
 {
-    let mut line = [0u8; ROOM];
-    let n = put_statement(img, counts, j, &mut line);
-    at + copy(&line[..n], &mut target[at..])
+    let made = statement(board, j);
+    at + copy(&made.bytes[..made.length], &mut target[at..])
 }
 
 // How long the text of an image's board is.
-pub fn text_length(img: &[u8], counts: Counts) -> usize
-    requires { Known img.now counts }
-    ensures { result ≡ length (text_of (board_of img.now)) }
+pub fn text_length(board: Accepted) -> usize
+    ensures { result ≡ length (text_of (board_of board.entry.img.now)) }
 {
-    let count = counts.lines + counts.outputs;
-    let mut at = 0;
-    let mut j = 0;
-    while j < count {
-        at += statement_length(img, counts, j);
-        j += 1;
+    let mut length = 0;
+    for j in 0..board.counts.lines + board.counts.outputs {
+        length += statement_length(board, j);
     }
-    at
+    length
 }
 
 // Puts the text of an image's board in front of a target, which keeps its other bytes.
-pub fn put_text(img: &[u8], counts: Counts, target: &mut [u8])
-    requires { Known img.now counts × (length (text_of (board_of img.now)) ≤ length target.old) }
-    ensures { target.new ≡ in_front (text_of (board_of img.now)) target.old }
+pub fn put_text(board: Accepted, target: &mut [u8])
+    requires { length (text_of (board_of board.img.now)) ≤ length target.old }
+    ensures { target.new ≡ in_front (text_of (board_of board.entry.img.now)) target.old }
 {
-    let end = counts.lines + counts.outputs;
+    let end = board.counts.lines + board.counts.outputs;
     let mut at = 0;
-    let mut j = 0;
-    while j < end {
-        at = add_statement(img, counts, j, target, at);
-        j += 1;
+    for j in 0..end {
+        at = add_statement(board, j, target, at);
     }
 }

@@ -19,7 +19,7 @@ ghost use Rattle.exports.specs.Show.{show_promise};
 
 use board::Fault;
 use image::limits::Entry;
-use image::said::{Numbers, with_two};
+use image::said::{Numbers, said, with_two};
 
 // A fault in numbers. Its sort is 0 for a line's and any other number for a pin's, so that no third sort can be named; a line's has no use
 // for the pin.
@@ -55,7 +55,7 @@ fn fault_of(n: FaultNumbers) -> Fault
 pub extern "C" fn fortizembo_check(img: &[u8]) -> Numbers
     ensures { Exported (check_promise img.now) [] result }
 {
-    image::said::checked(image::check(img))
+    said(image::check(img))
 }
 
 // Rows: both rows filled.
@@ -69,7 +69,7 @@ pub extern "C" fn fortizembo_rows(
 ) -> Numbers
     ensures { Exported (rows_promise img.now pattern (fault_named fault) good.old faulty.old) (good.new ∷ faulty.new ∷ []) result }
 {
-    rows::said::filled(rows::rows(img, pattern, fault_of(fault), good, faulty))
+    said(rows::rows(img, pattern, fault_of(fault), good, faulty))
 }
 
 // Judge: 1 for yes, 0 for no.
@@ -77,7 +77,7 @@ pub extern "C" fn fortizembo_rows(
 pub extern "C" fn fortizembo_judge(img: &[u8], pattern: u64, fault: FaultNumbers) -> Numbers
     ensures { Exported (judge_promise img.now pattern (fault_named fault)) [] result }
 {
-    rows::said::judged(rows::judge(img, pattern, fault_of(fault)))
+    said(rows::judge(img, pattern, fault_of(fault)))
 }
 
 // Refresh: the row rewritten from a line on.
@@ -90,7 +90,7 @@ pub extern "C" fn fortizembo_refresh(
 ) -> Numbers
     ensures { Exported (refresh_promise img.now pattern line row.old) (row.new ∷ []) result }
 {
-    rows::said::filled(rows::refresh(img, pattern, line, row))
+    said(rows::refresh(img, pattern, line, row))
 }
 
 // Show: where that very part begins in the row that is asked for, and its length. Any number but 0 asks for the faulty row.
@@ -119,7 +119,7 @@ pub extern "C" fn fortizembo_five(
 ) -> Numbers
     ensures { Exported (five_promise img.now named values (fault_named fault) row.old) (row.new ∷ []) result }
 {
-    five::said::driven(five::five(img, named, values, fault_of(fault), row))
+    said(five::five(img, named, values, fault_of(fault), row))
 }
 
 // Find: the smallest pattern, or no value for none.
@@ -127,7 +127,7 @@ pub extern "C" fn fortizembo_five(
 pub extern "C" fn fortizembo_find(img: &[u8], fault: FaultNumbers) -> Numbers
     ensures { Exported (find_promise img.now (fault_named fault)) [] result }
 {
-    find::said::found(find::find(img, fault_of(fault)))
+    said(find::find(img, fault_of(fault)))
 }
 
 // Book: the book filled, and how many entries are not none.
@@ -135,7 +135,7 @@ pub extern "C" fn fortizembo_find(img: &[u8], fault: FaultNumbers) -> Numbers
 pub extern "C" fn fortizembo_book(img: &[u8], entries: &mut [Entry]) -> Numbers
     ensures { Exported (book_promise Lines img.now entries.old) (entries.new ∷ []) result }
 {
-    find::said::counted(find::book(img, entries))
+    said(find::book(img, entries))
 }
 
 // Pin book: the pin book filled, and how many entries are not none.
@@ -143,7 +143,7 @@ pub extern "C" fn fortizembo_book(img: &[u8], entries: &mut [Entry]) -> Numbers
 pub extern "C" fn fortizembo_pin_book(img: &[u8], entries: &mut [Entry]) -> Numbers
     ensures { Exported (book_promise Pins img.now entries.old) (entries.new ∷ []) result }
 {
-    find::said::counted(find::pin_book(img, entries))
+    said(find::pin_book(img, entries))
 }
 
 // Alter: image and both books brought up to date, and how many entries are then not none.
@@ -157,7 +157,7 @@ pub extern "C" fn fortizembo_alter(
 ) -> Numbers
     ensures { Exported (alter_promise img.old (both book.old pins.old) line «record».now) (img.new ∷ book.new ∷ pins.new ∷ []) result }
 {
-    find::said::counted(alter::alter(img, book, pins, line, *record))
+    said(alter::alter(img, book, pins, line, *record))
 }
 
 // Read: the image that a text names in front of the target, and its length.
@@ -165,7 +165,7 @@ pub extern "C" fn fortizembo_alter(
 pub extern "C" fn fortizembo_read(text: &[u8], target: &mut [u8]) -> Numbers
     ensures { ByReading text.now (λ is. Exported (read_promise is target.old) (target.new ∷ []) result) }
 {
-    drawing::said::made(drawing::read(text, target))
+    said(drawing::read(text, target))
 }
 
 // Write: an image's drawing in front of the target, and its length.
@@ -173,5 +173,5 @@ pub extern "C" fn fortizembo_read(text: &[u8], target: &mut [u8]) -> Numbers
 pub extern "C" fn fortizembo_write(img: &[u8], target: &mut [u8]) -> Numbers
     ensures { Exported (write_promise img.now target.old) (target.new ∷ []) result }
 {
-    drawing::said::made(drawing::write(img, target))
+    said(drawing::write(img, target))
 }

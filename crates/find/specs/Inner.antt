@@ -1,6 +1,5 @@
 -- What inner functions ask of each other and leave: no call's promise rests on it.
 use Rattle.std.specs.Prelude.{◌≡◌, List, Bool, true, false, cond, ℕ, ◌+◌, ◌*◌, ◌^◌, ◌≤◌, ◌<◌, length, get_or}
-use Rattle.std.proofs.Math.Option.{Option, none, some}
 use Rattle.board.specs.Lists.{on, build}
 use Rattle.board.specs.Limits.{most_inputs, none_mark}
 use Rattle.board.specs.Board.{Board}
@@ -10,22 +9,16 @@ use Rattle.board.specs.Gate.{site}
 use Rattle.board.specs.declared.Condition.{Condition}
 use Rattle.board.specs.declared.Sort.{Sort}
 use Rattle.image.specs.Image.{line_count, board_of}
-use Rattle.image.specs.Inner.{Known, OnBoard}
-use Rattle.image.specs.declared.Counts.{Counts}
+use Rattle.image.specs.Inner.{OnBoard}
+use Rattle.lanes.specs.declared.trial.Trial.{Trial}
+use Rattle.find.specs.declared.blocks.Start.{Start}
 use Rattle.lanes.specs.Words.{seen, Lanes, below}
+use Rattle.lanes.specs.declared.flat.Gate.{Gate}
 use Rattle.lanes.specs.Inner.{size, Flat, Roomy, Block}
-use Rattle.find.specs.declared.search.Answer.{Answer}
-use Rattle.find.specs.declared.search.Answer.TheVariants.{At, Nothing}
-
--- what a search finds
-abbrev pub answered : Answer → Option ℕ
-answered (At p) = some p
-answered Nothing = none
 
 module _ (sort : Sort) where
-  -- what renewing a book asks: an accepted image with its counts, and faults of its board
-  pub record Renewable (s : List ℕ) (c : Counts) (book : List ℕ) : Type 0 where
-    pub known : Known s c
+  -- what renewing a book asks: faults of an image's board
+  pub record Renewable (s : List ℕ) (book : List ℕ) : Type 0 where
     pub faults : (k : ℕ) → k < length book → OnBoard s (fault_at sort k)
 
   -- entry k: Find's answer where its line is marked in a row, its old number where it is not
@@ -46,10 +39,6 @@ module _ (sort : Sort) where
     pub book : after ≡ reworked (board_of s) marks old
     pub count : r ≡ found (reworked (board_of s) marks old)
 
--- the lines that a small board has at most
-abbrev pub few_lines : ℕ
-few_lines = 512
-
 -- a row in which the lines are marked that are marked in another
 pub record SameMarks (marks old new : List ℕ) : Type 0 where
   pub long : length new ≡ length old
@@ -60,7 +49,7 @@ pub record Spacious (lines rows todo : ℕ) : Type 0 where
   pub rows_long : 16 * lines + 16 ≤ rows
   pub todo_long : lines ≤ todo
 
--- the patterns of a block that are tried: from base up to an end
+-- the patterns of a block that are tried: from base up to an end. It is no invariant of `Trial`, since `flip` and `own_words` ask none.
 pub record Span (base end : ℕ) : Type 0 where
   pub some_left : base < end
   pub few : end ≤ base + 512
@@ -78,25 +67,31 @@ pub record Onward (t : ℕ → Bool) (m n o e o' e' : ℕ) : Type 0 where
   pub ended : on o ≡ true → on o' ≡ false → (p : ℕ) → n ≤ p → Goes t m p e e'
 
 -- what noting an entry asks, with the lanes in which a change of its line is seen
-pub record Notable (s flat : List ℕ) (base end : ℕ) (rows : List ℕ) (φ : Condition) (through : List ℕ) : Type 0 where
-  pub decoded : Flat (board_of s) flat
-  pub block : Block (board_of s) base rows
-  pub span : Span base end
-  pub fault : OnBoard s φ
-  pub sees : Lanes through (seen (board_of s) (site φ)) base
+pub record Notable (t : Trial) (rows : List ℕ) (φ : Condition) (through : List ℕ) : Type 0 where
+  pub block : Block (board_of t.img.now) t.base rows
+  pub span : Span t.base t.end
+  pub fault : OnBoard t.img.now φ
+  pub sees : Lanes through (seen (board_of t.img.now) (site φ)) t.base
 
-module _ (sort : Sort) (first : ℕ) where
-  -- a part of a book, whose entries are those from number `first` on: the test of entry k, and its line
+-- where a part of a book begins, from its sort and the number of its first entry; and where the part from its entry k on does
+abbrev pub start_at : Sort → ℕ → Start
+start_at sort first = record { sort = sort; first = first }
+
+abbrev pub later : Start → ℕ → Start
+later at k = start_at at.sort (at.first + k)
+
+module _ (at : Start) where
+  -- a part of a book, from where it begins on: the test of entry k, and its line
   abbrev pub test_of : Board → ℕ → ℕ → Bool
-  test_of b k = shows b (fault_at sort (first + k))
+  test_of b k = shows b (fault_at at.sort (at.first + k))
 
   abbrev pub line_of : ℕ → ℕ
-  line_of k = site (fault_at sort (first + k))
+  line_of k = site (fault_at at.sort (at.first + k))
 
   -- a part of n entries has faults of an image's board
   pub record Part (s : List ℕ) (n : ℕ) : Type 0 where
-    pub short : first + n ≤ 65536
-    pub faults : (k : ℕ) → k < n → OnBoard s (fault_at sort (first + k))
+    pub short : at.first + n ≤ 65536
+    pub faults : (k : ℕ) → k < n → OnBoard s (fault_at at.sort (at.first + k))
 
   -- where the entries of entry k's line end, in a part of n entries
   pub record LineEnd (k n end : ℕ) : Type 0 where
@@ -105,31 +100,29 @@ module _ (sort : Sort) (first : ℕ) where
     pub same : (j : ℕ) → k ≤ j → j < end → line_of j ≡ line_of k
     pub above : (j : ℕ) → end ≤ j → j < n → line_of k < line_of j
 
-  module _ (s flat : List ℕ) (base : ℕ) where
+  module _ (t : Trial) where
     -- what a part of n entries asks in a block whose good words stand in rows
     pub record Tryable (rows : List ℕ) (n : ℕ) : Type 0 where
-      pub decoded : Flat (board_of s) flat
-      pub block : Block (board_of s) base rows
-      pub part : Part s n
+      pub block : Block (board_of t.img.now) t.base rows
+      pub part : Part t.img.now n
 
     -- what a part asks whose entries are all of one line
-    pub record TryableLine (end : ℕ) (rows changed : List ℕ) (line n : ℕ) : Type 0 where
+    pub record TryableLine (rows changed : List ℕ) (line n : ℕ) : Type 0 where
       pub tryable : Tryable rows n
-      pub span : Span base end
-      pub inside : line < size (board_of s)
-      pub changes : length changed ≡ size (board_of s)
+      pub span : Span t.base t.end
+      pub inside : line < size (board_of t.img.now)
+      pub changes : length changed ≡ size (board_of t.img.now)
       pub of_line : (k : ℕ) → k < n → line_of k ≡ line
 
     -- what a part asks of a block, with room for the good words lent
-    pub record TryableBlock (end : ℕ) (rows changed todo : List ℕ) (n : ℕ) : Type 0 where
-      pub decoded : Flat (board_of s) flat
-      pub room : Roomy (board_of s) rows
+    pub record TryableBlock (rows changed todo : List ℕ) (n : ℕ) : Type 0 where
+      pub room : Roomy (board_of t.img.now) rows
       pub number : ℕ
-      pub base_is : base ≡ 512 * number
-      pub span : Span base end
-      pub changes : length changed ≡ size (board_of s)
-      pub wide : size (board_of s) ≤ length todo
-      pub part : Part s n
+      pub base_is : t.base ≡ 512 * number
+      pub span : Span t.base t.end
+      pub changes : length changed ≡ size (board_of t.img.now)
+      pub wide : size (board_of t.img.now) ≤ length todo
+      pub part : Part t.img.now n
 
   module _ (b : Board) (m n : ℕ) where
     -- the entries of a part, gone on from the patterns below m to those below n
@@ -157,7 +150,7 @@ module _ (sort : Sort) (first : ℕ) where
       pub answer : r ≡ false → (k : ℕ) → k < length part → on (get_or todo' (line_of k) 0) ≡ false
 
   -- what the search for a part of n entries asks
-  pub record Searchable (s flat : List ℕ) (limit : ℕ) (rows changed todo : List ℕ) (n : ℕ) : Type 0 where
+  pub record Searchable (s : List ℕ) (flat : List Gate) (limit : ℕ) (rows changed todo : List ℕ) (n : ℕ) : Type 0 where
     pub decoded : Flat (board_of s) flat
     pub room : Roomy (board_of s) rows
     pub bounded : limit ≤ 2 ^ most_inputs
@@ -165,10 +158,9 @@ module _ (sort : Sort) (first : ℕ) where
     pub wide : size (board_of s) ≤ length todo
     pub part : Part s n
 
-  -- what the whole search asks: an accepted image with its counts, and as much room as its board needs
-  pub record Roomed (s : List ℕ) (c : Counts) (flat rows changed todo n : ℕ) : Type 0 where
-    pub known : Known s c
-    pub flat_long : flat ≡ 8 * line_count s
+  -- what the whole search asks: as much room as an image's board needs
+  pub record Roomed (s : List ℕ) (flat rows changed todo n : ℕ) : Type 0 where
+    pub flat_long : flat ≡ line_count s
     pub rows_long : rows ≡ 16 * line_count s + 16
     pub changes : changed ≡ line_count s
     pub wide : line_count s ≤ todo

@@ -3,196 +3,176 @@
 ghost use Rattle.std.specs.Prelude.{◌≡◌, true, false, ℕ, ◌+◌, ◌*◌, ◌/◌, ◌≤◌, ◌<◌, length};
 ghost use Rattle.board.specs.Gate.{site, absent};
 ghost use Rattle.board.specs.Test.{shows};
-ghost use Rattle.board.specs.Book.{entries_a_line};
+ghost use Rattle.board.specs.Book.{entries_a_line, fault_at};
 ghost use Rattle.image.specs.Image.{board_of};
 ghost use Rattle.image.specs.Inner.{OnBoard};
 ghost use Rattle.lanes.specs.Words.{seen as seen_at, Lanes};
-ghost use Rattle.lanes.specs.Inner.{size, Flat, Block};
-ghost use Rattle.find.specs.Inner.{Span, Goes, Notable, line_of, Part, Tryable, TryableLine, TryableBlock, LineEnd, Gone, TriedLine, TriedBlock};
+ghost use Rattle.lanes.specs.Inner.{size, Block};
+ghost use Rattle.find.specs.Inner.{later, Span, Goes, Notable, line_of, Part, Tryable, TryableLine, TryableBlock, LineEnd, Gone, TriedLine, TriedBlock};
 
 use board::{Condition, Fault, Sort, fault_at, site_of};
 use image::limits::{Entry, NONE};
-use lanes::eight::{all_of, is_dark, lowest};
+use lanes::eight::{is_dark, lowest};
 use lanes::fill::fill_good;
-use lanes::flat::number;
 use lanes::flip::flip;
 use lanes::own::own_words;
+use lanes::trial::Trial;
+use std::simd::u64x8;
+
+// Where a part of a book begins: its entries are those from number `first` on.
+#[derive(Clone, Copy)]
+pub struct Start {
+    pub sort: Sort,
+    pub first: usize,
+}
+
+impl Start {
+    // The fault of entry k of the part.
+    fn fault(self, k: usize) -> Condition
+        requires { self.first + k < 65536 }
+        ensures { result ≡ fault_at self.sort (self.first + k) }
+    {
+        fault_at(self.sort, self.first + k)
+    }
+
+    // Where the part from its entry k on begins.
+    fn later(self, k: usize) -> Start
+        requires { self.first + k < 65536 }
+        ensures { result ≡ later self k }
+    {
+        Start {
+            sort: self.sort,
+            first: self.first + k,
+        }
+    }
+}
 
 // An entry after a block, with the lanes in which a change of its line is seen: where it was none, the lowest lane that shows its fault, if
 // that is a pattern.
-fn note(
-    img: &[u8],
-    flat: &[u16],
-    base: u64,
-    end: u64,
-    rows: &[u64],
-    condition: Condition,
-    seen: [u64; 8],
-    old: Entry,
-) -> Entry
-    requires { Notable img.now flat.now base end rows.now condition «seen» }
-    ensures { Goes (shows (board_of img.now) condition) base end old result }
+fn note(trial: Trial, rows: &[u64], condition: Condition, seen: u64x8, old: Entry) -> Entry
+    requires { Notable trial rows.now condition «seen» }
+    ensures { let t = trial.entry in Goes (shows (board_of t.img.now) condition) t.base t.end old result }
 {
     if old != NONE {
         return old;
     }
-    let own = own_words(img, flat, base, condition, rows);
-    let at = base + lowest(all_of(own, seen));
-    if at < end { at } else { old }
+    let own = own_words(trial, condition, rows);
+    let found = trial.base + lowest(own & seen);
+    if found < trial.end { found } else { old }
 }
 
 // Whether an entry is none and its fault changes its line in a block.
-fn stirs(img: &[u8], flat: &[u16], base: u64, rows: &[u64], condition: Condition, e: Entry) -> bool
-    requires { Flat (board_of img.now) flat.now × Block (board_of img.now) base rows.now × OnBoard img.now condition }
-    ensures { result ≡ false → (n : ℕ) → base ≤ n → n ≤ base + 512 → Goes (shows (board_of img.now) condition) base n e e }
+fn stirs(trial: Trial, rows: &[u64], condition: Condition, e: Entry) -> bool
+    requires { Block (board_of trial.img.now) trial.base rows.now × OnBoard trial.img.now condition }
+    ensures { let t = trial.entry in result ≡ false → (n : ℕ) → t.base ≤ n → n ≤ t.base + 512 → Goes (shows (board_of t.img.now) condition) t.base n e e }
 {
     if e != NONE {
         return false;
     }
-    !is_dark(own_words(img, flat, base, condition, rows))
+    !is_dark(own_words(trial, condition, rows))
 }
 
 // Whether a block leaves every entry of a part as it is.
-fn is_idle(
-    img: &[u8],
-    flat: &[u16],
-    base: u64,
-    rows: &[u64],
-    sort: Sort,
-    first: usize,
-    part: &[Entry],
-) -> bool
-    requires { Tryable sort first img.now flat.now base rows.now (length part.now) }
-    ensures { result ≡ true → (n : ℕ) → base ≤ n → n ≤ base + 512 → Gone sort first (board_of img.now) base n part.now part.now }
+fn is_idle(trial: Trial, rows: &[u64], at: Start, part: &[Entry]) -> bool
+    requires { Tryable at trial rows.now (length part.now) }
+    ensures { let t = trial.entry in result ≡ true → (n : ℕ) → t.base ≤ n → n ≤ t.base + 512 → Gone at (board_of t.img.now) t.base n part.now part.now }
 {
-    let mut k = 0;
-    while k < part.len() {
-        if stirs(img, flat, base, rows, fault_at(sort, first + k), part[k]) {
+    for (k, e) in part.iter().enumerate() {
+        if stirs(trial, rows, at.fault(k), *e) {
             return false;
         }
-        k += 1;
     }
     true
 }
 
 // Whether a fault is on an absent pin.
-fn is_absent(img: &[u8], flat: &[u16], condition: Condition) -> bool
-    requires { Flat (board_of img.now) flat.now × (site condition < size (board_of img.now)) }
-    ensures { result ≡ absent (board_of img.now) condition }
+fn is_absent(trial: Trial, condition: Condition) -> bool
+    requires { site condition < size (board_of trial.img.now) }
+    ensures { let t = trial.entry in result ≡ absent (board_of t.img.now) condition }
 {
     match condition {
-        Condition::Sound => false,
-        Condition::Having(fault) => match fault {
-            Fault::Line { line: _, stuck: _ } => false,
-            Fault::Pin {
-                line,
-                pin,
-                stuck: _,
-            } => number(flat, 8 * line + 1) <= pin,
-        },
+        Condition::Having(Fault::Pin { line, pin, .. }) => usize::from(trial.flat[line].count)
+            <= pin,
+        _ => false,
     }
 }
 
 // Whether an entry is none and its fault is not on an absent pin.
-fn awaits(img: &[u8], flat: &[u16], condition: Condition, e: Entry) -> bool
-    requires { Flat (board_of img.now) flat.now × (site condition < size (board_of img.now)) }
-    ensures { result ≡ false → (m n : ℕ) → m ≤ n → Goes (shows (board_of img.now) condition) m n e e }
+fn awaits(trial: Trial, condition: Condition, e: Entry) -> bool
+    requires { site condition < size (board_of trial.img.now) }
+    ensures { let t = trial.entry in result ≡ false → (m n : ℕ) → m ≤ n → Goes (shows (board_of t.img.now) condition) m n e e }
 {
     if e != NONE {
         return false;
     }
-    !is_absent(img, flat, condition)
+    !is_absent(trial, condition)
 }
 
 // Whether some entry of a part is still to be found.
-fn is_to_do(img: &[u8], flat: &[u16], sort: Sort, first: usize, part: &[Entry]) -> bool
-    requires { Flat (board_of img.now) flat.now × Part sort first img.now (length part.now) }
-    ensures { result ≡ false → (m n : ℕ) → m ≤ n → Gone sort first (board_of img.now) m n part.now part.now }
+fn is_to_do(trial: Trial, at: Start, part: &[Entry]) -> bool
+    requires { Part at trial.img.now (length part.now) }
+    ensures { let t = trial.entry in result ≡ false → (m n : ℕ) → m ≤ n → Gone at (board_of t.img.now) m n part.now part.now }
 {
-    let mut k = 0;
-    while k < part.len() {
-        if awaits(img, flat, fault_at(sort, first + k), part[k]) {
+    for (k, e) in part.iter().enumerate() {
+        if awaits(trial, at.fault(k), *e) {
             return true;
         }
-        k += 1;
     }
     false
 }
 
 // Notes the entries of a part after a block, with the lanes in which a change of their line is seen.
-fn note_all(
-    img: &[u8],
-    flat: &[u16],
-    base: u64,
-    end: u64,
-    rows: &[u64],
-    sort: Sort,
-    first: usize,
-    seen: [u64; 8],
-    part: &mut [Entry],
-)
-    requires { Tryable sort first img.now flat.now base rows.now (length part.old) × Span base end × ((k : ℕ) → k < length part.old → Lanes «seen» (seen_at (board_of img.now) (line_of sort first k)) base) }
-    ensures { Gone sort first (board_of img.now) base end part.old part.new }
+fn note_all(trial: Trial, rows: &[u64], at: Start, seen: u64x8, part: &mut [Entry])
+    requires { Tryable at trial rows.now (length part.old) × Span trial.base trial.end × ((k : ℕ) → k < length part.old → Lanes «seen» (seen_at (board_of trial.img.now) (line_of at k)) trial.base) }
+    ensures { let t = trial.entry in Gone at (board_of t.img.now) t.base t.end part.old part.new }
 {
-    let mut k = 0;
-    while k < part.len() {
-        let fault = fault_at(sort, first + k);
-        let e = note(img, flat, base, end, rows, fault, seen, part[k]);
-        part[k] = e;
-        k += 1;
+    for (k, e) in part.iter_mut().enumerate() {
+        *e = note(trial, rows, at.fault(k), seen, *e);
     }
 }
 
 // Brings the entries of a line to the end of a block.
 fn bring_line(
-    img: &[u8],
-    flat: &[u16],
-    base: u64,
-    end: u64,
+    trial: Trial,
     rows: &mut [u64],
     changed: &mut [u8],
-    sort: Sort,
+    at: Start,
     line: usize,
-    first: usize,
     part: &mut [Entry],
 )
-    requires { TryableLine sort first img.now flat.now base end rows.old changed.old line (length part.old) }
-    ensures { Gone sort first (board_of img.now) base end part.old part.new × Block (board_of img.now) base rows.new }
+    requires { TryableLine at trial rows.old changed.old line (length part.old) }
+    ensures { let t = trial.entry in Gone at (board_of t.img.now) t.base t.end part.old part.new × Block (board_of t.img.now) t.base rows.new }
 {
-    if is_idle(img, flat, base, rows, sort, first, part) {
+    if is_idle(trial, rows, at, part) {
         return;
     }
-    let seen = flip(img, flat, base, line, rows, changed);
-    note_all(img, flat, base, end, rows, sort, first, seen, part);
+    let seen = flip(trial, line, rows, changed);
+    note_all(trial, rows, at, seen, part);
 }
 
 // Tries a block for the entries of a line that is still to do. Whether it is to do then.
 fn try_line(
-    img: &[u8],
-    flat: &[u16],
-    base: u64,
-    end: u64,
+    trial: Trial,
     rows: &mut [u64],
     changed: &mut [u8],
-    sort: Sort,
+    at: Start,
     line: usize,
-    first: usize,
     todo: &mut [u8],
     part: &mut [Entry],
 ) -> bool
-    requires { TryableLine sort first img.now flat.now base end rows.old changed.old line (length part.old) × (line < length todo.old) }
-    ensures { TriedLine sort first (board_of img.now) base end line todo.old part.old result rows.new todo.new part.new }
+    requires { TryableLine at trial rows.old changed.old line (length part.old) × (line < length todo.old) }
+    ensures { let t = trial.entry in TriedLine at (board_of t.img.now) t.base t.end line todo.old part.old result rows.new todo.new part.new }
 {
     if todo[line] == 0 {
         return false;
     }
-    bring_line(img, flat, base, end, rows, changed, sort, line, first, part);
-    let more = is_to_do(img, flat, sort, first, part);
+    bring_line(trial, rows, changed, at, line, part);
+    let more = is_to_do(trial, at, part);
     todo[line] = more as u8;
     more
 }
 
-// The number of the first entry of the line after entry k's.
+// The number of the first entry of the line after entry k's: each sort divides by a constant of its own, which takes no division.
 fn next_line(sort: Sort, k: usize) -> usize
     requires { k < 65536 }
     ensures { result ≡ entries_a_line sort * (k / entries_a_line sort + 1) }
@@ -204,46 +184,38 @@ fn next_line(sort: Sort, k: usize) -> usize
 }
 
 // Where the entries of entry k's line end, in a part of n entries.
-fn line_end(sort: Sort, first: usize, k: usize, n: usize) -> usize
-    requires { (k < n) × (first + n ≤ 65536) }
-    ensures { LineEnd sort first k n result }
+fn line_end(at: Start, k: usize, n: usize) -> usize
+    requires { (k < n) × (at.first + n ≤ 65536) }
+    ensures { LineEnd at k n result }
 {
-    let end = next_line(sort, first + k) - first;
-    if end < n { end } else { n }
+    n.min(next_line(at.sort, at.first + k) - at.first)
 }
 
 // Tries a block for the entries of a part whose lines are still to do. Whether one of them is to do then.
 pub fn try_block(
-    img: &[u8],
-    flat: &[u16],
-    base: u64,
-    end: u64,
+    trial: Trial,
     rows: &mut [u64],
     changed: &mut [u8],
-    sort: Sort,
-    first: usize,
+    at: Start,
     todo: &mut [u8],
     part: &mut [Entry],
 ) -> bool
-    requires { TryableBlock sort first img.now flat.now base end rows.old changed.old todo.old (length part.old) }
-    ensures { TriedBlock sort first (board_of img.now) base end todo.old part.old result rows.new todo.new part.new }
+    requires { TryableBlock at trial rows.old changed.old todo.old (length part.old) }
+    ensures { let t = trial.entry in TriedBlock at (board_of t.img.now) t.base t.end todo.old part.old result rows.new todo.new part.new }
 {
-    fill_good(img, flat, changed.len(), base, rows);
+    fill_good(trial, changed.len(), rows);
     let mut any = false;
+    // No `chunks_mut`: a part may begin within a line, as Find's of one entry does.
     let mut k = 0;
     while k < part.len() {
-        let line = site_of(fault_at(sort, first + k));
-        let next = line_end(sort, first, k, part.len());
+        let line = site_of(at.fault(k));
+        let next = line_end(at, k, part.len());
         let more = try_line(
-            img,
-            flat,
-            base,
-            end,
+            trial,
             rows,
             changed,
-            sort,
+            at.later(k),
             line,
-            first + k,
             todo,
             &mut part[k..next],
         );

@@ -4,7 +4,6 @@
 
 mod blocks;
 pub mod entries;
-pub mod said;
 mod search;
 
 ghost use Rattle.std.specs.Prelude.{[], ◌∷◌};
@@ -15,56 +14,37 @@ ghost use Rattle.find.specs.Book.{counted_says, book_promise};
 
 use board::{Fault, Sort};
 use entries::{fill_book, then_book};
+use image::Refusal;
+use image::accepted::Accepted;
 use image::asked::{check_fault, check_image};
 use image::limits::Entry;
-use image::{Checked, Refusal};
-use search::{Answer, smallest};
-
-#[derive(Clone, Copy)]
-pub enum Found {
-    Pattern(u64),
-    Nothing,
-    Refused(Refusal),
-}
-
-#[derive(Clone, Copy)]
-pub enum Counted {
-    Entries(usize),
-    Refused(Refusal),
-}
+use search::smallest;
 
 // Find: the smallest pattern that shows the fault, or nothing where no pattern does.
-pub fn find(img: &[u8], fault: Fault) -> Found
+pub fn find(img: &[u8], fault: Fault) -> Result<Option<u64>, Refusal>
     ensures { Owes (find_promise img.now fault) [] (found_says result) }
 {
-    match check_fault(img, fault) {
-        Checked::Refused(r) => Found::Refused(r),
-        Checked::Good(counts) => match smallest(img, counts, fault) {
-            Answer::At(p) => Found::Pattern(p),
-            Answer::Nothing => Found::Nothing,
-        },
-    }
+    let counts = check_fault(img, fault)?;
+    Ok(smallest(Accepted { img, counts }, fault))
 }
 
 // A book of a sort filled, once it is as long as it should be.
-fn book_of(img: &[u8], sort: Sort, entries: &mut [Entry]) -> Counted
+fn book_of(img: &[u8], sort: Sort, entries: &mut [Entry]) -> Result<usize, Refusal>
     ensures { Owes (book_promise sort img.now entries.old) (entries.new ∷ []) (counted_says result) }
 {
-    match then_book(check_image(img), sort, entries.len()) {
-        Checked::Refused(r) => Counted::Refused(r),
-        Checked::Good(counts) => Counted::Entries(fill_book(img, counts, sort, entries)),
-    }
+    let counts = then_book(check_image(img), sort, entries.len())?;
+    Ok(fill_book(Accepted { img, counts }, sort, entries))
 }
 
 // Book: fills entry 2 x line + stuck value with that pattern, or NONE, and counts the entries that are not none.
-pub fn book(img: &[u8], entries: &mut [Entry]) -> Counted
+pub fn book(img: &[u8], entries: &mut [Entry]) -> Result<usize, Refusal>
     ensures { Owes (book_promise Lines img.now entries.old) (entries.new ∷ []) (counted_says result) }
 {
     book_of(img, Sort::Lines, entries)
 }
 
 // Pin book: fills entry 8 x line + 2 x pin + stuck value in the same way, an absent pin's with NONE.
-pub fn pin_book(img: &[u8], entries: &mut [Entry]) -> Counted
+pub fn pin_book(img: &[u8], entries: &mut [Entry]) -> Result<usize, Refusal>
     ensures { Owes (book_promise Pins img.now entries.old) (entries.new ∷ []) (counted_says result) }
 {
     book_of(img, Sort::Pins, entries)

@@ -2,30 +2,28 @@
 ghost use Rattle.std.specs.Prelude.{◌≡◌, ℕ, ◌+◌, ◌*◌, ◌^◌, ◌≤◌, ◌<◌, length, get_or};
 ghost use Rattle.board.specs.Limits.{most_lines, most_inputs};
 ghost use Rattle.board.specs.Board.{inputs as inputs_of};
+ghost use Rattle.board.specs.Inner.{as_found};
 ghost use Rattle.board.specs.Test.{find};
 ghost use Rattle.board.specs.Book.{fault_at};
 ghost use Rattle.board.specs.declared.Condition.TheVariants.{Having};
 ghost use Rattle.image.specs.Image.{board_of};
-ghost use Rattle.image.specs.Inner.{Known, OnBoard};
-ghost use Rattle.find.specs.Inner.{answered, few_lines, SameMarks, Part, Searchable, Spacious, Roomed, Searched};
+ghost use Rattle.image.specs.Inner.{OnBoard};
+ghost use Rattle.find.specs.Inner.{SameMarks, Part, Searchable, Spacious, Roomed, Searched};
 
-use crate::blocks::try_block;
+use crate::blocks::{Start, try_block};
 use board::{Fault, Sort};
-use image::Counts;
+use image::accepted::Accepted;
 use image::limits::{Entry, MOST_LINES, NONE};
 use image::numbers::byte;
 use lanes::fill::{MOST_WORDS, make_room};
-use lanes::flat::{MOST_FLAT, decode};
+use lanes::flat::{BLANK, Gate, decode};
+use lanes::trial::Trial;
 
 // The lines that a small board has at most.
 const FEW_LINES: usize = 512;
 
-// What a search finds.
-#[derive(Clone, Copy)]
-pub enum Answer {
-    At(Entry),
-    Nothing,
-}
+// How many words the room for a small board's has.
+const FEW_WORDS: usize = 16 * FEW_LINES + 16;
 
 // How many patterns a board with so many inputs has.
 fn patterns(inputs: usize) -> u64
@@ -35,35 +33,33 @@ fn patterns(inputs: usize) -> u64
     1 << inputs
 }
 
-// The smaller of two numbers.
-fn smaller(a: u64, b: u64) -> u64
-    ensures { (result ≤ a) × (result ≤ b) × (result < b → result ≡ a) × ((n : ℕ) → n < a → n < b → n < result) }
-{
-    if a < b { a } else { b }
-}
-
 // Tries the patterns below a limit for the entries of a part whose lines are still to do, with room for the blocks lent.
+// The room stays three slices: of one lent in a struct's field a proof keeps the length alone.
 fn search(
     img: &[u8],
-    flat: &[u16],
+    flat: &[Gate],
     limit: u64,
     rows: &mut [u64],
     changed: &mut [u8],
-    sort: Sort,
-    first: usize,
+    at: Start,
     todo: &mut [u8],
     part: &mut [Entry],
 )
-    requires { Searchable sort first img.now flat.now limit rows.old changed.old todo.old (length part.old) }
-    ensures { Searched sort first (board_of img.now) limit todo.old part.old part.new }
+    requires { Searchable at img.now flat.now limit rows.old changed.old todo.old (length part.old) }
+    ensures { Searched at (board_of img.now) limit todo.old part.old part.new }
 {
-    let mut base = 0;
-    while base < limit {
-        let end = smaller(base + 512, limit);
-        if !try_block(img, flat, base, end, rows, changed, sort, first, todo, part) {
+    for block in 0..limit.div_ceil(512) {
+        let base = 512 * block;
+        let end = limit.min(base + 512);
+        let trial = Trial {
+            img,
+            flat,
+            base,
+            end,
+        };
+        if !try_block(trial, rows, changed, at, todo, part) {
             return;
         }
-        base = end;
     }
 }
 
@@ -71,153 +67,123 @@ fn search(
 fn take_marks(marks: &[u8], todo: &mut [u8])
     ensures { SameMarks marks.now todo.old todo.new }
 {
-    let mut l = 0;
-    while l < todo.len() {
-        todo[l] = (0 < byte(marks, l)) as u8;
-        l += 1;
+    for (l, more) in todo.iter_mut().enumerate() {
+        *more = (byte(marks, l) > 0) as u8;
     }
 }
 
 // Works out the entries of a part that are none and whose lines are marked in a row, with as much room as the board needs lent.
 fn try_in(
-    img: &[u8],
-    counts: Counts,
-    flat: &mut [u16],
+    board: Accepted,
+    flat: &mut [Gate],
     rows: &mut [u64],
     changed: &mut [u8],
     todo: &mut [u8],
-    sort: Sort,
-    first: usize,
+    at: Start,
     marks: &[u8],
     part: &mut [Entry],
 )
-    requires { Roomed sort first img.now counts (length flat.old) (length rows.old) (length changed.old) (length todo.old) (length part.old) }
-    ensures { Searched sort first (board_of img.now) (2 ^ inputs_of (board_of img.now)) marks.now part.old part.new }
+    requires { Roomed at board.img.now (length flat.old) (length rows.old) (length changed.old) (length todo.old) (length part.old) }
+    ensures { let s = board.entry.img.now in Searched at (board_of s) (2 ^ inputs_of (board_of s)) marks.now part.old part.new }
 {
-    let limit = patterns(counts.inputs);
-    decode(img, counts, flat);
-    make_room(img, counts.lines, rows);
+    let limit = patterns(board.counts.inputs);
+    decode(board, flat);
+    make_room(board.img, board.counts.lines, rows);
     take_marks(marks, todo);
-    search(img, flat, limit, rows, changed, sort, first, todo, part);
+    search(board.img, flat, limit, rows, changed, at, todo, part);
 }
 
 // The same with rows lent that are long enough. Each array is filled once, where it stands, and a long one with 1s: 0s are left to the C
 // library, which an emulator may run a byte at a time. Those that stand here are known to the compiler to lie apart from the rows.
 fn try_within(
-    img: &[u8],
-    counts: Counts,
+    board: Accepted,
     rows: &mut [u64],
     todo: &mut [u8],
-    sort: Sort,
-    first: usize,
+    at: Start,
     marks: &[u8],
     part: &mut [Entry],
 )
-    requires { Known img.now counts × Part sort first img.now (length part.old) × Spacious counts.lines (length rows.old) (length todo.old) }
-    ensures { Searched sort first (board_of img.now) (2 ^ inputs_of (board_of img.now)) marks.now part.old part.new }
+    requires { Part at board.img.now (length part.old) × Spacious board.counts.lines (length rows.old) (length todo.old) }
+    ensures { let s = board.entry.img.now in Searched at (board_of s) (2 ^ inputs_of (board_of s)) marks.now part.old part.new }
 {
-    let lines = counts.lines;
-    let numbers = 8 * lines;
+    let lines = board.counts.lines;
     let words = 16 * lines + 16;
-    let mut flat = [1u16; MOST_FLAT];
+    let mut flat = [BLANK; MOST_LINES];
     let mut changed = [0u8; MOST_LINES];
     try_in(
-        img,
-        counts,
-        &mut flat[..numbers],
+        board,
+        &mut flat[..lines],
         &mut rows[..words],
         &mut changed[..lines],
         &mut todo[..lines],
-        sort,
-        first,
+        at,
         marks,
         part,
     );
 }
 
-// The same with the rows of a small board.
-fn try_small(img: &[u8], counts: Counts, sort: Sort, first: usize, marks: &[u8], part: &mut [Entry])
-    requires { Known img.now counts × Part sort first img.now (length part.old) × (counts.lines ≤ few_lines) }
-    ensures { Searched sort first (board_of img.now) (2 ^ inputs_of (board_of img.now)) marks.now part.old part.new }
-{
-    let mut rows = [1u64; 16 * FEW_LINES + 16];
-    let mut todo = [0u8; FEW_LINES];
-    try_within(img, counts, &mut rows, &mut todo, sort, first, marks, part);
-}
-
-// The same with the rows of any board.
-fn try_large(img: &[u8], counts: Counts, sort: Sort, first: usize, marks: &[u8], part: &mut [Entry])
-    requires { Known img.now counts × Part sort first img.now (length part.old) }
-    ensures { Searched sort first (board_of img.now) (2 ^ inputs_of (board_of img.now)) marks.now part.old part.new }
-{
-    let mut rows = [1u64; MOST_WORDS];
-    let mut todo = [0u8; MOST_LINES];
-    try_within(img, counts, &mut rows, &mut todo, sort, first, marks, part);
-}
-
-// Works out the entries of a part that are none and whose lines are marked in a row. A small board has small rows, which are quick to fill.
-pub fn try_all(
-    img: &[u8],
-    counts: Counts,
-    sort: Sort,
-    first: usize,
+// The same with rows of so many words, for a board of at most so many lines.
+fn try_with<const LINES: usize, const WORDS: usize>(
+    board: Accepted,
+    at: Start,
     marks: &[u8],
     part: &mut [Entry],
 )
-    requires { Known img.now counts × Part sort first img.now (length part.old) }
-    ensures { Searched sort first (board_of img.now) (2 ^ inputs_of (board_of img.now)) marks.now part.old part.new }
+    requires { Part at board.img.now (length part.old) × (board.counts.lines ≤ LINES) × (LINES ≤ most_lines) × (WORDS ≡ 16 * LINES + 16) }
+    ensures { let s = board.entry.img.now in Searched at (board_of s) (2 ^ inputs_of (board_of s)) marks.now part.old part.new }
 {
-    if counts.lines <= FEW_LINES {
-        try_small(img, counts, sort, first, marks, part);
+    let mut rows = [1u64; WORDS];
+    let mut todo = [0u8; LINES];
+    try_within(board, &mut rows, &mut todo, at, marks, part);
+}
+
+// Works out the entries of a part that are none and whose lines are marked in a row. A small board has small rows, which are quick to fill.
+pub fn try_all(board: Accepted, at: Start, marks: &[u8], part: &mut [Entry])
+    requires { Part at board.img.now (length part.old) }
+    ensures { let s = board.entry.img.now in Searched at (board_of s) (2 ^ inputs_of (board_of s)) marks.now part.old part.new }
+{
+    if board.counts.lines <= FEW_LINES {
+        try_with::<FEW_LINES, FEW_WORDS>(board, at, marks, part);
     } else {
-        try_large(img, counts, sort, first, marks, part);
+        try_with::<MOST_LINES, MOST_WORDS>(board, at, marks, part);
     }
 }
 
-// Every line marked.
-pub fn every_line() -> [u8; MOST_LINES]
-    ensures { (most_lines ≡ length result) × ((l : ℕ) → l < most_lines → get_or result l 0 ≡ 1) }
+// The smallest pattern that shows the fault of a part's first entry, or nothing.
+fn answer_at(board: Accepted, at: Start) -> Option<Entry>
+    requires { OnBoard board.img.now (fault_at at.sort at.first) }
+    ensures { as_found result ≡ find (board_of board.entry.img.now) (fault_at at.sort at.first) }
 {
-    [1u8; MOST_LINES]
-}
-
-// The smallest pattern that shows the fault of a book's entry k, or nothing.
-fn answer_at(img: &[u8], counts: Counts, sort: Sort, k: usize) -> Answer
-    requires { Known img.now counts × OnBoard img.now (fault_at sort k) }
-    ensures { answered result ≡ find (board_of img.now) (fault_at sort k) }
-{
-    let every = every_line();
+    let every = [1u8; MOST_LINES];
     let mut part = [NONE; 1];
-    try_all(img, counts, sort, k, &every, &mut part);
+    try_all(board, at, &every, &mut part);
     let e = part[0];
-    if e == NONE {
-        Answer::Nothing
-    } else {
-        Answer::At(e)
-    }
+    if e == NONE { None } else { Some(e) }
 }
 
 // The smallest pattern that shows a fault, or nothing.
-pub fn smallest(img: &[u8], counts: Counts, fault: Fault) -> Answer
-    requires { Known img.now counts × OnBoard img.now (Having fault) }
-    ensures { answered result ≡ find (board_of img.now) (Having fault) }
+pub fn smallest(board: Accepted, fault: Fault) -> Option<Entry>
+    requires { OnBoard board.img.now (Having fault) }
+    ensures { as_found result ≡ find (board_of board.entry.img.now) (Having fault) }
 {
     match fault {
         Fault::Line { line, stuck } => answer_at(
-            img,
-            counts,
-            Sort::Lines,
-            2 * line + (stuck as usize),
+            board,
+            Start {
+                sort: Sort::Lines,
+                first: 2 * line + stuck as usize,
+            },
         ),
         Fault::Pin { line, pin, stuck } => {
             if 4 <= pin {
-                return Answer::Nothing;
+                return None;
             }
             answer_at(
-                img,
-                counts,
-                Sort::Pins,
-                8 * line + 2 * pin + (stuck as usize),
+                board,
+                Start {
+                    sort: Sort::Pins,
+                    first: 8 * line + 2 * pin + stuck as usize,
+                },
             )
         }
     }

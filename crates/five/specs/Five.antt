@@ -1,24 +1,21 @@
 -- What the call of the five values owes.
 use Rattle.std.proofs.Math.Option.{Option}
-use Rattle.std.specs.Prelude.{List, [], ◌∷◌, ℕ, length}
+use Rattle.std.specs.Prelude.{List, [], ◌∷◌, ℕ, length, Result}
 use Rattle.board.specs.Row.{row}
 use Rattle.board.specs.Five.{five, partial}
 use Rattle.board.specs.declared.Fault.{Fault}
 use Rattle.board.specs.declared.Condition.{Condition}
 use Rattle.board.specs.declared.Condition.TheVariants.{Having}
 use Rattle.image.specs.Image.{line_count, board_of}
-use Rattle.image.specs.Promise.{numbers, Promise}
+use Rattle.image.specs.Promise.{said_of, Promise}
 use Rattle.image.specs.Calls.{◌then◌, bad_row, fault_refusals}
 use Rattle.image.specs.declared.Refusal.{Refusal}
 use Rattle.five.specs.Partial.{bad_partial}
 use Rattle.five.specs.Driven.{driven}
-use Rattle.five.specs.declared.Driven.{Driven}
-use Rattle.five.specs.declared.Driven.TheVariants.{Count, Refused}
 
 -- 0 and the count, or a refusal
-abbrev pub driven_says : Driven → List ℕ
-driven_says (Count n) = 0 ∷ n ∷ []
-driven_says (Refused r) = numbers r
+abbrev pub driven_says : Result ℕ Refusal → List ℕ
+driven_says = said_of (λ n. n ∷ [])
 
 -- 1 to 5, 6, 7, 12, 8, and 9 on a row of n bytes
 unfoldable pub five_refusals : List ℕ → ℕ → ℕ → Fault → ℕ → List (Option Refusal)

@@ -6,8 +6,8 @@ mod count;
 mod fill;
 mod line;
 mod partial;
-pub mod said;
 mod table;
+mod way;
 
 ghost use Rattle.std.specs.Prelude.{[], ◌∷◌};
 ghost use Rattle.image.specs.Promise.{Owes};
@@ -16,28 +16,23 @@ ghost use Rattle.five.specs.Five.{driven_says, five_promise};
 use board::{Condition, Fault};
 use count::count_driven;
 use fill::fill;
+use image::Refusal;
 use image::asked::{check_fault, then_row};
-use image::{Checked, Refusal};
-use partial::then_partial;
-
-#[derive(Clone, Copy)]
-pub enum Driven {
-    Count(usize),
-    Refused(Refusal),
-}
+use partial::{Partial, then_partial};
 
 // Five values: for a partial pattern and a fault, fills the row, and says how many output lines hold D or D-bar.
-pub fn five(img: &[u8], named: u64, values: u64, fault: Fault, row: &mut [u8]) -> Driven
+pub fn five(
+    img: &[u8],
+    named: u64,
+    values: u64,
+    fault: Fault,
+    row: &mut [u8],
+) -> Result<usize, Refusal>
     ensures { Owes (five_promise img.now named values fault row.old) (row.new ∷ []) (driven_says result) }
 {
-    match then_row(
-        then_partial(check_fault(img, fault), named, values),
-        row.len(),
-    ) {
-        Checked::Refused(r) => Driven::Refused(r),
-        Checked::Good(_) => {
-            fill(img, named, values, Condition::Having(fault), row);
-            Driven::Count(count_driven(img, row))
-        }
-    }
+    let pattern = Partial { named, values };
+    let tested = then_partial(check_fault(img, fault), pattern);
+    then_row(tested, row.len())?;
+    fill(img, pattern, Condition::Having(fault), row);
+    Ok(count_driven(img, row))
 }

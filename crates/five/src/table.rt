@@ -2,9 +2,10 @@
 ghost use Rattle.std.specs.Prelude.{◌≡◌, [], ◌∷◌, ◌<◌, get_or};
 ghost use Rattle.board.specs.Five.{gate5};
 ghost use Rattle.five.specs.Table.{kind_of, Ruled};
+ghost use Rattle.five.specs.Inner.{number_of, filler_of};
 
 // tools/five-table.py: the table begins
-const TABLE: [u8; 1875] = [
+static TABLE: [u8; 1875] = [
     0, // and 0 0 0 0
     0, // and 0 0 0 1
     0, // and 0 0 0 x
@@ -1883,11 +1884,38 @@ const TABLE: [u8; 1875] = [
 ];
 // tools/five-table.py: the table ends
 
-// The table, for a caller to keep while it looks entries up.
-pub fn the_table() -> [u8; 1875]
-    ensures { Ruled result }
+// The table, which agrees with the rule at each entry.
+fn the_table() -> &'static [u8; 1875]
+    ensures { Ruled result.now }
 {
-    TABLE
+    &TABLE
+}
+
+// A section of the table: its gates are 1 where all pins are, where some pin is, or where an odd number of them is.
+#[derive(Clone, Copy)]
+pub enum Section {
+    And,
+    Or,
+    ExclusiveOr,
+}
+
+impl Section {
+    // Which section it is, counted from 0.
+    fn number(self) -> usize
+        ensures { result ≡ number_of self }
+    {
+        self as usize
+    }
+
+    // What fills an absent pin: a value that changes nothing of what a section's gates give.
+    pub fn filler(self) -> usize
+        ensures { (result ≡ filler_of self) × (result < 5) }
+    {
+        match self {
+            Section::And => 1,
+            Section::Or | Section::ExclusiveOr => 0,
+        }
+    }
 }
 
 // What stands at a place of a table, and x past its end.
@@ -1902,9 +1930,12 @@ pub fn pick(table: &[u8], at: usize) -> usize
 }
 
 // The value of a section's gate from those of its four pins.
-pub fn entry(table: &[u8], section: usize, a: usize, b: usize, c: usize, d: usize) -> usize
-    requires { Ruled table.now × (section < 3) × (a < 5) × (b < 5) × (c < 5) × (d < 5) }
-    ensures { result ≡ gate5 (kind_of section) (a ∷ b ∷ c ∷ d ∷ []) }
+pub fn entry(section: Section, a: usize, b: usize, c: usize, d: usize) -> usize
+    requires { (a < 5) × (b < 5) × (c < 5) × (d < 5) }
+    ensures { result ≡ gate5 (kind_of (number_of section)) (a ∷ b ∷ c ∷ d ∷ []) }
 {
-    pick(table, 625 * section + 125 * a + 25 * b + 5 * c + d)
+    pick(
+        the_table(),
+        625 * section.number() + 125 * a + 25 * b + 5 * c + d,
+    )
 }

@@ -1,5 +1,5 @@
 -- What any call owes.
-use Rattle.std.specs.Prelude.{◌≡◌, List, [], ◌∷◌, ℕ, ◌-◌, length, get_or, take}
+use Rattle.std.specs.Prelude.{◌≡◌, List, [], ◌∷◌, ℕ, ◌-◌, length, get_or, take, Result, Ok, Err}
 use Rattle.std.proofs.Math.Option.{Option, none, some}
 use Rattle.image.specs.Refusals.{first_refusal}
 use Rattle.image.specs.declared.Refusal.{Refusal}
@@ -22,6 +22,11 @@ numbers Row = 11 ∷ []
 numbers Pin = 12 ∷ []
 numbers (Form length) = 13 ∷ length ∷ []
 numbers Target = 14 ∷ []
+
+-- what a call's answer says: 0 and its values, or a refusal's numbers
+abbrev pub said_of : {A : Type 0} → (A → List ℕ) → Result A Refusal → List ℕ
+said_of says (Ok a) = 0 ∷ says a
+said_of says (Err r) = numbers r
 
 -- what is said: a refusal's numbers, or 0 and the answer
 abbrev pub answer : Option Refusal → List ℕ → List ℕ

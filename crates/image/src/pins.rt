@@ -22,14 +22,7 @@ pub fn is_absent(img: &[u8], condition: Condition) -> bool
     ensures { result ≡ absent (board_of img.now) condition }
 {
     match condition {
-        Condition::Sound => false,
-        Condition::Having(fault) => match fault {
-            Fault::Line { line: _, stuck: _ } => false,
-            Fault::Pin {
-                line,
-                pin,
-                stuck: _,
-            } => pin_count(img, line) <= pin,
-        },
+        Condition::Having(Fault::Pin { line, pin, .. }) => pin_count(img, line) <= pin,
+        _ => false,
     }
 }

@@ -1,9 +1,10 @@
 // What an answer says, in numbers: those that document 01 gives for each of its cases.
-ghost use Rattle.std.specs.Prelude.{[], ◌∷◌};
-ghost use Rattle.image.specs.Promise.{numbers as numbers_of, Packs};
-ghost use Rattle.image.specs.Check.{checked_says};
+ghost use Rattle.std.specs.Prelude.{List, [], ◌∷◌, ℕ, option_to_list};
+ghost use Rattle.board.specs.Lists.{bit};
+ghost use Rattle.image.specs.Promise.{numbers as numbers_of, said_of, Packs};
+ghost use Rattle.image.specs.Check.{counts_say};
 
-use crate::{Checked, Refusal};
+use crate::{Counts, Refusal};
 
 // 0 or a refusal's number, how many values are returned beside it, and these, with 0 in the unused places.
 #[repr(C)]
@@ -77,18 +78,74 @@ pub fn refused(r: Refusal) -> Numbers
     }
 }
 
-// The numbers of Check's answer.
-pub fn checked(c: Checked) -> Numbers
-    ensures { Packs (checked_says c) result }
-{
-    match c {
-        Checked::Good(counts) => Numbers {
+// What a call can answer: its values, in numbers behind a 0.
+pub trait Says {
+    ghost says: { Self → List ℕ };
+
+    fn say(self) -> Numbers
+        ensures { Packs (0 ∷ says self) result };
+}
+
+// The line, input and output counts.
+impl Says for Counts {
+    ghost says = { counts_say };
+
+    fn say(self) -> Numbers {
+        Numbers {
             number: 0,
             values: 3,
-            first: counts.lines as u64,
-            second: counts.inputs as u64,
-            third: counts.outputs as u64,
-        },
-        Checked::Refused(r) => refused(r),
+            first: self.lines as u64,
+            second: self.inputs as u64,
+            third: self.outputs as u64,
+        }
+    }
+}
+
+// No value: what was lent is filled.
+impl Says for () {
+    ghost says = { λ u. [] };
+
+    fn say(self) -> Numbers {
+        alone(0)
+    }
+}
+
+// 1 for yes, 0 for no.
+impl Says for bool {
+    ghost says = { λ b. bit b ∷ [] };
+
+    fn say(self) -> Numbers {
+        with_one(0, self as u64)
+    }
+}
+
+// A count.
+impl Says for usize {
+    ghost says = { λ n. n ∷ [] };
+
+    fn say(self) -> Numbers {
+        with_one(0, self as u64)
+    }
+}
+
+// A pattern, or no value for none.
+impl Says for Option<u64> {
+    ghost says = { option_to_list };
+
+    fn say(self) -> Numbers {
+        match self {
+            Some(pattern) => with_one(0, pattern),
+            None => alone(0),
+        }
+    }
+}
+
+// The numbers of a call's answer.
+pub fn said<A: Says>(answer: Result<A, Refusal>) -> Numbers
+    ensures { Packs (said_of A.says answer) result }
+{
+    match answer {
+        Ok(a) => a.say(),
+        Err(r) => refused(r),
     }
 }

@@ -4,38 +4,40 @@
 
 pub mod anew;
 mod brought;
-pub mod lent_book;
+mod lent;
 pub mod lent_rows;
-pub mod lent_target;
 pub mod word;
 
-ghost use Rattle.kept.specs.Kept.{Within};
-
 use image::Refusal;
-use lent_book::BookLengths;
-use lent_rows::Lengths;
+use image::limits::Entry;
+pub use lent::{Lent, lend};
 use ports::Terminal;
 use report::output::write_refusal;
+use report::rooms::TARGET_ROOM;
 
-// How much is lent of the image, the rows, the books and the target.
-#[derive(Clone, Copy)]
-pub struct Held {
-    pub image: usize,
-    pub rows: Lengths,
-    pub books: BookLengths,
-    pub target: usize,
-}
+// The longest image, row, line book and pin book that the console keeps.
+pub const MOST_IMAGE: usize = 65536;
 
-// Nothing is lent yet.
-pub fn nothing_lent() -> Held
-    ensures { Within result }
-{
-    Held {
-        image: 0,
-        rows: Lengths { good: 0, faulty: 0 },
-        books: BookLengths { lines: 0, pins: 0 },
-        target: 0,
-    }
+pub const MOST_ROW: usize = 8192;
+
+pub const MOST_BOOK: usize = 16384;
+
+pub const MOST_PINS: usize = 65536;
+
+// The byte of a fresh row or target, and the number of a fresh book.
+pub const FRESH_BYTE: u8 = 9;
+
+pub const FRESH_NUMBER: Entry = 99;
+
+// The image, the rows, the books and the target, as much as is lent of each.
+#[derive(Drop)]
+pub struct Kept {
+    pub img: Lent<u8, MOST_IMAGE>,
+    pub good: Lent<u8, MOST_ROW>,
+    pub faulty: Lent<u8, MOST_ROW>,
+    pub book: Lent<Entry, MOST_BOOK>,
+    pub pins: Lent<Entry, MOST_PINS>,
+    pub target: Lent<u8, TARGET_ROOM>,
 }
 
 // Answers with a refusal's one line, unless a write failed before.

@@ -1,43 +1,54 @@
 -- What inner functions ask of each other and leave: no call's promise rests on it.
-use Rattle.std.specs.Prelude.{◌≡◌, ◌⊎◌, List, ◌∷◌, Bool, true, cond, ◌&&◌, ℕ, ◌+◌, ◌*◌, ◌≤◌, ◌<◌, eqb, leb, length, get_or}
+use Rattle.std.specs.Prelude.{◌≡◌, ◌⊎◌, List, [], Bool, true, false, cond, ◌&&◌, ℕ, ◌+◌, ◌*◌, ◌≤◌, ◌<◌, eqb, leb, length, get_or}
 use Rattle.std.specs.Int.Bits.{bit_xor}
-use Rattle.board.specs.Lists.{◌among◌, somewhere, bit}
-use Rattle.board.specs.Board.{Record, Board, record_of}
+use Rattle.board.specs.Lists.{◌among◌, somewhere}
+use Rattle.board.specs.Board.{Board, record_of}
 use Rattle.board.specs.Row.{value}
 use Rattle.board.specs.Gate.{bit_of}
 use Rattle.board.specs.Fine.{Fine}
+use Rattle.lanes.specs.declared.flat.Gate.{Gate}
 use Rattle.lanes.specs.Words.{full, words, flipped_words, gate_word, is_out, lane}
 
 -- how many lines a board has
 abbrev pub size : Board → ℕ
 size b = length b.lines
 
--- a board's records as flat numbers, eight a line: kind, pin count, four pins, whether the line is an output, and a line above which none
--- reads it
-pub record Flat (b : Board) (flat : List ℕ) : Type 0 where
+-- the gate of a line, decoded, and one with no pins past the end
+abbrev pub bare_gate : Gate
+bare_gate = record { kind = 0; count = 0; pins = []; is_output = false; last_reader = 0 }
+
+abbrev pub gate_at : List Gate → ℕ → Gate
+gate_at flat i = get_or flat i bare_gate
+
+-- a gate noted as read by a line last, and one marked as an output
+abbrev pub read_by : Gate → ℕ → Gate
+read_by g line = record { kind = g.kind; count = g.count; pins = g.pins; is_output = g.is_output; last_reader = line }
+
+abbrev pub as_output : Gate → Gate
+as_output g = record { kind = g.kind; count = g.count; pins = g.pins; is_output = true; last_reader = g.last_reader }
+
+-- a board's records decoded, one gate a line: kind, pin count, four pins, whether the line is an output, and a line above which none reads it
+pub record Flat (b : Board) (flat : List Gate) : Type 0 where
   pub fine : Fine b
-  pub long : 8 * size b ≤ length flat
-  pub kind : (i : ℕ) → i < size b → get_or flat (8 * i) 0 ≡ (record_of b i).kind
-  pub count : (i : ℕ) → i < size b → get_or flat (8 * i + 1) 0 ≡ length (record_of b i).pins
-  pub pin : (i j : ℕ) → i < size b → j < length (record_of b i).pins → get_or flat (8 * i + 2 + j) 0 ≡ get_or (record_of b i).pins j 0
-  pub inside : (i j : ℕ) → i < size b → j < 4 → get_or flat (8 * i + 2 + j) 0 < size b
-  pub out : (i : ℕ) → i < size b → get_or flat (8 * i + 6) 0 ≡ bit (is_out b i)
-  pub last : (i p : ℕ) → i < size b → p among (record_of b i).pins → i ≤ get_or flat (8 * p + 7) 0
-  pub last_inside : (i : ℕ) → i < size b → get_or flat (8 * i + 7) 0 < size b
+  pub long : size b ≤ length flat
+  pub kind : (i : ℕ) → i < size b → (gate_at flat i).kind ≡ (record_of b i).kind
+  pub count : (i : ℕ) → i < size b → (gate_at flat i).count ≡ length (record_of b i).pins
+  pub pin : (i j : ℕ) → i < size b → j < length (record_of b i).pins → get_or (gate_at flat i).pins j 0 ≡ get_or (record_of b i).pins j 0
+  pub inside : (i j : ℕ) → i < size b → j < 4 → get_or (gate_at flat i).pins j 0 < size b
+  pub out : (i : ℕ) → i < size b → (gate_at flat i).is_output ≡ is_out b i
+  pub last : (i p : ℕ) → i < size b → p among (record_of b i).pins → i ≤ (gate_at flat p).last_reader
+  pub last_inside : (i : ℕ) → i < size b → (gate_at flat i).last_reader < size b
 
--- a record's numbers: kind, pin count, pins
-abbrev pub numbers_of : Record → List ℕ
-numbers_of r = r.kind ∷ length r.pins ∷ r.pins
-
--- a board decoded as far as a place: below it the records' numbers stand, and from it on 0s; the lines in a list are marked as outputs; what
--- the pins below the place read is noted, and each noted line is one of the board's
-pub record Decoded (b : Board) (at : ℕ) (marked flat : List ℕ) : Type 0 where
-  pub long : 8 * size b ≤ length flat
-  pub done : (i f : ℕ) → f < 6 → 8 * i + f < at → get_or flat (8 * i + f) 0 ≡ get_or (numbers_of (record_of b i)) f 0
-  pub bare : (i f : ℕ) → f < 6 → at ≤ 8 * i + f → get_or flat (8 * i + f) 0 ≡ 0
-  pub out : (i : ℕ) → get_or flat (8 * i + 6) 0 ≡ bit (somewhere (eqb i) marked)
-  pub last : (i j : ℕ) → j < 4 → 8 * i + 2 + j < at → j < length (record_of b i).pins → i ≤ get_or flat (8 * get_or (record_of b i).pins j 0 + 7) 0
-  pub last_inside : (i : ℕ) → get_or flat (8 * i + 7) 0 < size b
+-- the first n lines decoded: their records stand there, with 0s past their pins; the lines in a list are marked as outputs; what their pins
+-- read is noted, and each noted line is one of the board's
+pub record Decoded (b : Board) (n : ℕ) (marked : List ℕ) (flat : List Gate) : Type 0 where
+  pub long : size b ≤ length flat
+  pub kind : (i : ℕ) → i < n → (gate_at flat i).kind ≡ (record_of b i).kind
+  pub count : (i : ℕ) → i < n → (gate_at flat i).count ≡ length (record_of b i).pins
+  pub pin : (i j : ℕ) → i < n → j < 4 → get_or (gate_at flat i).pins j 0 ≡ get_or (record_of b i).pins j 0
+  pub out : (i : ℕ) → i < n → (gate_at flat i).is_output ≡ somewhere (eqb i) marked
+  pub last : (i p : ℕ) → i < n → p among (record_of b i).pins → i ≤ (gate_at flat p).last_reader
+  pub last_inside : (i : ℕ) → i < n → (gate_at flat i).last_reader < size b
 
 -- room for the words of a board's lines twice, eight a line: the good ones and, behind them, the changed ones; then eight words of 0s and
 -- eight of 1s

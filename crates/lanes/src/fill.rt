@@ -5,13 +5,15 @@ ghost use Rattle.board.specs.Gate.{bit_of};
 ghost use Rattle.board.specs.Row.{value};
 ghost use Rattle.image.specs.Image.{board_of};
 ghost use Rattle.lanes.specs.Words.{each, masks, spread as spread_out, input_word, words};
-ghost use Rattle.lanes.specs.Inner.{size, Flat, Roomy, GoodTo, Block};
+ghost use Rattle.lanes.specs.Inner.{size, Roomy, GoodTo};
 
-use crate::eight::{FULL, alike, put_eight};
-use crate::flat::number;
+use crate::eight::{FULL, put_eight};
+use crate::flat::Gate;
 use crate::gate::gate_words;
+use crate::trial::Trial;
 use image::limits::MOST_LINES;
 use image::pattern::bit_of;
+use std::simd::u64x8;
 
 // The word of an input below 6, the same in every block.
 fn low_word(i: usize) -> u64
@@ -44,14 +46,14 @@ fn high_word(base: u64, i: usize) -> u64
 }
 
 // The words of an input.
-fn input_words(base: u64, i: usize) -> [u64; 8]
+fn input_words(base: u64, i: usize) -> u64x8
     requires { base < 2 ^ 63 }
     ensures { result ≡ each (λ w. input_word (base + 64 * w) i) }
 {
     if i < 6 {
-        return alike(low_word(i));
+        return u64x8::splat(low_word(i));
     }
-    [
+    u64x8::from_array([
         high_word(base, i),
         high_word(base + 64, i),
         high_word(base + 128, i),
@@ -60,45 +62,41 @@ fn input_words(base: u64, i: usize) -> [u64; 8]
         high_word(base + 320, i),
         high_word(base + 384, i),
         high_word(base + 448, i),
-    ]
+    ])
 }
 
 // Where the good words of the lines on a gate's pins stand.
-pub fn good_places(flat: &[u16], i: usize) -> [usize; 4]
-    requires { 8 * i + 8 ≤ length flat.now }
-    ensures { (j : ℕ) → j < 4 → get_or result j 0 ≡ 8 * get_or flat.now (8 * i + 2 + j) 0 }
+pub fn good_places(gate: &Gate) -> [usize; 4]
+    ensures { (j : ℕ) → j < 4 → get_or result j 0 ≡ 8 * get_or gate.now.pins j 0 }
 {
-    let at = 8 * i + 2;
     [
-        8 * number(flat, at),
-        8 * number(flat, at + 1),
-        8 * number(flat, at + 2),
-        8 * number(flat, at + 3),
+        8 * usize::from(gate.pins[0]),
+        8 * usize::from(gate.pins[1]),
+        8 * usize::from(gate.pins[2]),
+        8 * usize::from(gate.pins[3]),
     ]
 }
 
 // The words of a line, from the good words below it.
-fn line_words(img: &[u8], flat: &[u16], i: usize, base: u64, rows: &[u64]) -> [u64; 8]
-    requires { Flat (board_of img.now) flat.now × (i < size (board_of img.now)) × (base < 2 ^ 63) × Roomy (board_of img.now) rows.now × GoodTo (board_of img.now) base i rows.now }
-    ensures { (w : ℕ) → w < 8 → get_or result w 0 ≡ value (words (base + 64 * w)) (board_of img.now) i }
+fn line_words(trial: Trial, i: usize, rows: &[u64]) -> u64x8
+    requires { (i < size (board_of trial.img.now)) × (trial.base < 2 ^ 63) × Roomy (board_of trial.img.now) rows.now × GoodTo (board_of trial.img.now) trial.base i rows.now }
+    ensures { let t = trial.entry in (w : ℕ) → w < 8 → get_or result w 0 ≡ value (words (t.base + 64 * w)) (board_of t.img.now) i }
 {
-    let kind = number(flat, 8 * i);
-    if kind == 0 {
-        return input_words(base, i);
+    let gate = &trial.flat[i];
+    if gate.kind == 0 {
+        return input_words(trial.base, i);
     }
-    gate_words(kind, number(flat, 8 * i + 1), good_places(flat, i), rows)
+    gate_words(gate, good_places(gate), rows)
 }
 
-// Fills the good words of every line for the 512 patterns from base on.
-pub fn fill_good(img: &[u8], flat: &[u16], lines: usize, base: u64, rows: &mut [u64])
-    requires { Flat (board_of img.now) flat.now × (lines ≡ size (board_of img.now)) × (base < 2 ^ 63) × Roomy (board_of img.now) rows.old }
-    ensures { Roomy (board_of img.now) rows.new × GoodTo (board_of img.now) base lines rows.new }
+// Fills the good words of every line for the 512 patterns from the base on.
+pub fn fill_good(trial: Trial, lines: usize, rows: &mut [u64])
+    requires { (lines ≡ size (board_of trial.img.now)) × (trial.base < 2 ^ 63) × Roomy (board_of trial.img.now) rows.old }
+    ensures { let t = trial.entry in Roomy (board_of t.img.now) rows.new × GoodTo (board_of t.img.now) t.base lines rows.new }
 {
-    let mut i = 0;
-    while i < lines {
-        let words = line_words(img, flat, i, base, rows);
+    for i in 0..lines {
+        let words = line_words(trial, i, rows);
         put_eight(rows, 8 * i, words);
-        i += 1;
     }
 }
 
@@ -110,6 +108,6 @@ pub fn make_room(img: &[u8], lines: usize, rows: &mut [u64])
     requires { (lines ≡ size (board_of img.now)) × (lines ≤ most_lines) × (length rows.old ≡ 16 * lines + 16) }
     ensures { Roomy (board_of img.now) rows.new }
 {
-    put_eight(rows, 16 * lines, alike(0));
-    put_eight(rows, 16 * lines + 8, alike(FULL));
+    put_eight(rows, 16 * lines, u64x8::splat(0));
+    put_eight(rows, 16 * lines + 8, u64x8::splat(FULL));
 }

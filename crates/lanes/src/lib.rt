@@ -8,3 +8,4 @@ pub mod flat;
 pub mod flip;
 mod gate;
 pub mod own;
+pub mod trial;

@@ -8,13 +8,14 @@ ghost use Rattle.board.specs.declared.Condition.TheVariants.{Having};
 ghost use Rattle.image.specs.Image.{board_of};
 ghost use Rattle.image.specs.Inner.{OnBoard};
 ghost use Rattle.lanes.specs.Words.{faulty_words, Lanes};
-ghost use Rattle.lanes.specs.Inner.{size, Flat, Block};
+ghost use Rattle.lanes.specs.Inner.{size, gate_at, Block};
 
-use crate::eight::{alike, eight_at, odd_of};
+use crate::eight::eight_at;
 use crate::fill::{good_places, spread};
-use crate::flat::number;
 use crate::gate::gate_words;
+use crate::trial::Trial;
 use board::{Condition, Fault};
+use std::simd::u64x8;
 
 // One place or the other.
 fn place_if(held: bool, at: usize, own: usize) -> usize
@@ -23,7 +24,7 @@ fn place_if(held: bool, at: usize, own: usize) -> usize
     if held { at } else { own }
 }
 
-// The places with another at one pin.
+// The places with another at one pin. Each is chosen: `places[pin] = at` is read back at once, which is slower by a tenth to a quarter.
 fn held_places(places: [usize; 4], pin: usize, at: usize) -> [usize; 4]
     ensures { (j : ℕ) → j < 4 → get_or result j 0 ≡ cond (eqb pin j) at (get_or «places» j 0) }
 {
@@ -36,84 +37,45 @@ fn held_places(places: [usize; 4], pin: usize, at: usize) -> [usize; 4]
 }
 
 // The words of a line whose gate reads a stuck value on one of its pins.
-fn held_words(
-    img: &[u8],
-    flat: &[u16],
-    base: u64,
-    line: usize,
-    pin: usize,
-    stuck: u8,
-    rows: &[u64],
-) -> [u64; 8]
-    requires { Flat (board_of img.now) flat.now × Block (board_of img.now) base rows.now × (line < size (board_of img.now)) × (pin < get_or flat.now (8 * line + 1) 0) × (stuck < 2) }
-    ensures { (w : ℕ) → w < 8 → get_or result w 0 ≡ value (faulty_words (Having (Pin line pin stuck)) (base + 64 * w)) (board_of img.now) line }
+fn held_words(trial: Trial, line: usize, pin: usize, stuck: u8, rows: &[u64]) -> u64x8
+    requires { Block (board_of trial.img.now) trial.base rows.now × (line < size (board_of trial.img.now)) × (pin < (gate_at trial.flat.now line).count) × (stuck < 2) }
+    ensures { let t = trial.entry in (w : ℕ) → w < 8 → get_or result w 0 ≡ value (faulty_words (Having (Pin line pin stuck)) (t.base + 64 * w)) (board_of t.img.now) line }
 {
-    let at = rows.len() - 16 + 8 * (stuck as usize);
-    let kind = number(flat, 8 * line);
-    let count = number(flat, 8 * line + 1);
-    gate_words(
-        kind,
-        count,
-        held_places(good_places(flat, line), pin, at),
-        rows,
-    )
+    let gate = &trial.flat[line];
+    let at = rows.len() - 16 + 8 * usize::from(stuck);
+    gate_words(gate, held_places(good_places(gate), pin, at), rows)
 }
 
 // The lanes in which a held line changes.
-fn line_changes(
-    img: &[u8],
-    flat: &[u16],
-    base: u64,
-    line: usize,
-    stuck: u8,
-    rows: &[u64],
-) -> [u64; 8]
-    requires { Flat (board_of img.now) flat.now × Block (board_of img.now) base rows.now × (line < size (board_of img.now)) × (stuck < 2) }
-    ensures { Lanes result (λ x. differs (board_of img.now) (Having (Line line stuck)) x line) base }
+fn line_changes(trial: Trial, line: usize, stuck: u8, rows: &[u64]) -> u64x8
+    requires { Block (board_of trial.img.now) trial.base rows.now × (line < size (board_of trial.img.now)) × (stuck < 2) }
+    ensures { let t = trial.entry in Lanes result (λ x. differs (board_of t.img.now) (Having (Line line stuck)) x line) t.base }
 {
-    odd_of(eight_at(rows, 8 * line), alike(spread(stuck)))
+    eight_at(rows, 8 * line) ^ u64x8::splat(spread(stuck))
 }
 
 // The lanes in which a line changes one of whose pins is held.
-fn pin_changes(
-    img: &[u8],
-    flat: &[u16],
-    base: u64,
-    line: usize,
-    pin: usize,
-    stuck: u8,
-    rows: &[u64],
-) -> [u64; 8]
-    requires { Flat (board_of img.now) flat.now × Block (board_of img.now) base rows.now × (line < size (board_of img.now)) × (stuck < 2) }
-    ensures { Lanes result (λ x. differs (board_of img.now) (Having (Pin line pin stuck)) x line) base }
+fn pin_changes(trial: Trial, line: usize, pin: usize, stuck: u8, rows: &[u64]) -> u64x8
+    requires { Block (board_of trial.img.now) trial.base rows.now × (line < size (board_of trial.img.now)) × (stuck < 2) }
+    ensures { let t = trial.entry in Lanes result (λ x. differs (board_of t.img.now) (Having (Pin line pin stuck)) x line) t.base }
 {
-    if number(flat, 8 * line + 1) <= pin {
-        return alike(0);
+    if usize::from(trial.flat[line].count) <= pin {
+        return u64x8::splat(0);
     }
-    odd_of(
-        eight_at(rows, 8 * line),
-        held_words(img, flat, base, line, pin, stuck, rows),
-    )
+    let held = held_words(trial, line, pin, stuck, rows);
+    eight_at(rows, 8 * line) ^ held
 }
 
 // The lanes in which a fault changes its own line, with the good words of a block lent.
-pub fn own_words(
-    img: &[u8],
-    flat: &[u16],
-    base: u64,
-    condition: Condition,
-    rows: &[u64],
-) -> [u64; 8]
-    requires { Flat (board_of img.now) flat.now × Block (board_of img.now) base rows.now × OnBoard img.now condition }
-    ensures { Lanes result (λ x. differs (board_of img.now) condition x (site condition)) base }
+pub fn own_words(trial: Trial, condition: Condition, rows: &[u64]) -> u64x8
+    requires { Block (board_of trial.img.now) trial.base rows.now × OnBoard trial.img.now condition }
+    ensures { let t = trial.entry in Lanes result (λ x. differs (board_of t.img.now) condition x (site condition)) t.base }
 {
     match condition {
-        Condition::Sound => alike(0),
-        Condition::Having(fault) => match fault {
-            Fault::Line { line, stuck } => line_changes(img, flat, base, line, stuck, rows),
-            Fault::Pin { line, pin, stuck } => {
-                pin_changes(img, flat, base, line, pin, stuck, rows)
-            }
-        },
+        Condition::Sound => u64x8::splat(0),
+        Condition::Having(Fault::Line { line, stuck }) => { line_changes(trial, line, stuck, rows) }
+        Condition::Having(Fault::Pin { line, pin, stuck }) => {
+            pin_changes(trial, line, pin, stuck, rows)
+        }
     }
 }

@@ -4,7 +4,7 @@
 
 pub mod files;
 pub mod input;
-pub mod write;
+mod write;
 
 ghost use Rattle.std.specs.Prelude.{IsOk};
 
@@ -17,12 +17,14 @@ pub struct Terminal {
     pub written: io::Result<()>,
 }
 
-// The way of a console that has not written anything yet.
-pub fn new_terminal(rt: HostRuntime) -> Terminal
-    ensures { IsOk result.written }
-{
-    Terminal {
-        rt,
-        written: Ok(()),
+impl Terminal {
+    // The way of a console that has not written anything yet.
+    pub fn new(rt: HostRuntime) -> Terminal
+        ensures { IsOk result.written }
+    {
+        Terminal {
+            rt,
+            written: Ok(()),
+        }
     }
 }

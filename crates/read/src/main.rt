@@ -2,10 +2,9 @@
 
 #![tactic(auto)]
 
-use drawing::Made;
 use report::input::{read_full, read_on};
-use report::output::{write_out, write_refusal};
-use report::rooms::{MOST_TEXT, blank_image, blank_text, large_buffer};
+use report::output::write_refusal;
+use report::rooms::{LARGE, MOST_TEXT, blank_image, blank_text};
 use std::io;
 use std::io::Write;
 
@@ -13,14 +12,14 @@ use std::io::Write;
 fn write_image(rt: &HostRuntime, text: &[u8]) -> io::Result<()> {
     let mut img = blank_image();
     match drawing::read(text, &mut img) {
-        Made::Bytes(n) => write_out(&mut rt.stdout(), &img, n),
-        Made::Refused(r) => write_refusal(&mut rt.stderr(), r),
+        Ok(n) => rt.stdout().write_all(&img[..n]),
+        Err(r) => write_refusal(&mut rt.stderr(), r),
     }
 }
 
 // Reads a text that is too long to its end, and says so.
 fn pass_long(rt: &HostRuntime) -> io::Result<()> {
-    let mut buf = large_buffer();
+    let mut buf = [0u8; LARGE];
     read_on(&mut rt.stdin(), &mut buf);
     rt.stderr().write_all(b"? larger than 1048576 bytes\n")
 }

@@ -1,5 +1,5 @@
 -- The text that the program `book` writes for any bytes that come in.
-use Rattle.std.specs.Prelude.{◌≡◌, List, [], ◌∷◌, ◌++◌, cond, ℕ, suc, ◌+◌, ◌-◌, ◌*◌, ◌≤◌, ◌<◌, length, take}
+use Rattle.std.specs.Prelude.{◌≡◌, List, [], ◌∷◌, ◌++◌, cond, ℕ, suc, ◌+◌, ◌-◌, ◌*◌, ◌≤◌, ◌<◌, length, take, Option as Answer, Some, None}
 use Rattle.std.proofs.Math.Option.{Option, none, some}
 use Rattle.board.specs.Board.{Record, Board}
 use Rattle.board.specs.Gate.{absent}
@@ -75,11 +75,17 @@ pub record Filled (sort : Sort) (s book : List ℕ) (r : Rest) : Type 0 where
   pub counted : r.found ≡ found (book_of sort s)
   pub of_all : r.faults ≡ faults_of sort (board_of s)
 
--- what follows for a book of s: how many lines, and what they are made from, the book in the front of some room
-pub record RestOf (sort : Sort) (s room : List ℕ) (r : Rest) : Type 0 where
+-- what follows for a book of s: how many lines, the total's among them, and what they are made from, the book in the front of some room
+pub record Follows (sort : Sort) (s room : List ℕ) (r : Rest) : Type 0 where
   pub many : r.lines ≡ length (lines_after sort (first_refusal (image_refusals s)) s)
+  pub some : 0 < r.lines
   pub inside : r.lines ≤ suc (length room)
-  pub filled : 0 < r.lines → Filled sort s (take (r.lines - 1) room) r
+  pub filled : Filled sort s (take (r.lines - 1) room) r
+
+-- and nothing, just where the image is refused
+abbrev pub RestOf : Sort → List ℕ → List ℕ → Answer Rest → Type 0
+RestOf sort s room None = lines_after sort (first_refusal (image_refusals s)) s ≡ []
+RestOf sort s room (Some r) = Follows sort s room r
 
 -- two inputs are refused, and alike
 abbrev pub RefusedAlike : List ℕ → List ℕ → Type 0

@@ -3,20 +3,13 @@ ghost use Rattle.std.specs.Prelude.{◌≡◌, List, ◌++◌, ℕ, ◌+◌, ◌
 ghost use Rattle.image.specs.Image.{longest_image};
 ghost use Rattle.report.specs.Book.{RefusedAlike, Tail};
 
-use crate::rooms::large_buffer;
+use crate::rooms::LARGE;
 use image::limits::LONGEST_IMAGE;
 use std::io::Read;
 use text::put::put;
 
 // How many bytes a trailer has.
 const TRAILER: usize = 12;
-
-// Room for a trailer.
-fn blank_trailer() -> [u8; TRAILER]
-    ensures { 12 ≡ length result }
-{
-    [0u8; TRAILER]
-}
 
 // Brings the last 12 bytes of what came first to the front of a buffer.
 fn begin_tail(came: &[u8], buf: &mut [u8])
@@ -32,10 +25,7 @@ fn keep_tail(buf: &mut [u8], got: usize)
     requires { got + 12 ≤ length buf.old }
     ensures { (s : List ℕ) → 12 ≤ length s → Tail s buf.old → Tail (s ++ take got (drop 12 buf.old)) buf.new }
 {
-    let end = got + TRAILER;
-    let mut last = blank_trailer();
-    put(&buf[got..end], &mut last, 0);
-    put(&last, buf, 0);
+    buf.copy_within(got..got + TRAILER, 0);
 }
 
 // Puts the last 12 bytes of what came at the end of a long image: it is then refused as all that came is.
@@ -52,15 +42,11 @@ pub fn read_full<R: Read>(from: &mut R, buf: &mut [u8]) -> usize
     ensures { result ≤ length buf.new }
 {
     let mut n = 0;
+    // No `for`: each read says how much came.
     while n < buf.len() {
         match from.read(&mut buf[n..]) {
-            Ok(more) => {
-                if more == 0 {
-                    return n;
-                }
-                n += more;
-            }
-            Err(_) => return n,
+            Ok(0) | Err(_) => return n,
+            Ok(more) => n += more,
         }
     }
     n
@@ -70,14 +56,12 @@ pub fn read_full<R: Read>(from: &mut R, buf: &mut [u8]) -> usize
 pub fn read_on<R: Read>(from: &mut R, buf: &mut [u8])
     requires { 12 ≤ length buf.old }
 {
-    let mut turns = u64::MAX;
-    while 0 < turns {
+    for _ in 0..u64::MAX {
         let got = read_full(from, &mut buf[TRAILER..]);
         if got == 0 {
             return;
         }
         keep_tail(buf, got);
-        turns -= 1;
     }
 }
 
@@ -85,7 +69,7 @@ pub fn read_on<R: Read>(from: &mut R, buf: &mut [u8])
 fn read_long<R: Read>(from: &mut R, img: &mut [u8])
     requires { longest_image < length img.old }
 {
-    let mut buf = large_buffer();
+    let mut buf = [0u8; LARGE];
     begin_tail(img, &mut buf);
     read_on(from, &mut buf);
     end_with_tail(&buf, img);

@@ -1,4 +1,4 @@
-// Lines made from what calls say, each in a small buffer by a function whose contract says which bytes.
+// Lines made from what calls say, each by a function whose contract says which bytes.
 
 #![tactic(auto)]
 

@@ -1,7 +1,6 @@
 -- A set of pairs of a good and a faulty value, as a number below 16: 1 for 0/0, 2 for 1/1, 4 for D (good 1, faulty 0), 8 for D-bar, added up.
-use Rattle.std.specs.Prelude.{◌≡◌, ◌⊎◌, [], ◌∷◌, Bool, true, ℕ, ◌+◌, ◌*◌, ◌/◌, ◌%◌, ◌<◌, eqb, get_or}
+use Rattle.std.specs.Prelude.{◌≡◌, ◌⊎◌, [], ◌∷◌, Bool, true, cond, ℕ, ◌+◌, ◌*◌, ◌/◌, ◌%◌, ◌<◌, eqb, ltb, get_or}
 use Rattle.board.specs.Gate.{gate, bit_of}
-use Rattle.board.specs.Inner.{held_at}
 
 -- the place of a pair's bit
 abbrev pub place : ℕ → ℕ → ℕ
@@ -37,13 +36,17 @@ Common s t r = (g h : ℕ) → In s g h → In t g h → In r g h
 abbrev pub Parted : ℕ → ℕ → ℕ → Type 0
 Parted s t u = (g h : ℕ) → In s g h → In t g h ⊎ In u g h
 
+-- a value v that is held at s where that is 0 or 1
+abbrev pub held_at : ℕ → ℕ → ℕ
+held_at s v = cond (ltb s 2) s v
+
 -- r holds what the pairs in x become where their faulty value is held at s (2: it is not held)
 abbrev pub Held : ℕ → ℕ → ℕ → Type 0
-Held s x r = (g h : ℕ) → In x g h → In r g (held_at (λ t v. t) s h)
+Held s x r = (g h : ℕ) → In x g h → In r g (held_at s h)
 
 -- r holds whatever becomes a pair in z where its faulty value is held at s (2: it is not held)
 abbrev pub Freed : ℕ → ℕ → ℕ → Type 0
-Freed s z r = (g h : ℕ) → h < 2 → In z g (held_at (λ t v. t) s h) → In r g h
+Freed s z r = (g h : ℕ) → h < 2 → In z g (held_at s h) → In r g h
 
 -- r holds every pair whose good value is that of a pair in s, turned where f is odd
 abbrev pub Follows : ℕ → ℕ → ℕ → Type 0

@@ -5,7 +5,9 @@
 
 mod rows;
 
-ghost use Rattle.std.specs.Prelude.{◌≡◌, ◌/◌, ◌%◌, ◌<◌};
+ghost use Rattle.std.specs.Prelude.{◌≡◌, ◌/◌, ◌%◌, ◌<◌, slice_index};
+ghost use Rattle.std.specs.Option.{unwrap_or};
+ghost use Rattle.board.specs.Lists.{bit};
 ghost use Rattle.sets.specs.Sets.{Forward, Common, Parted, Held, Freed, Follows, Stepped, Paired};
 ghost use Rattle.sets.specs.Inner.{cell, Turns, Back};
 
@@ -18,7 +20,8 @@ fn set_at(row: u64, t: u8) -> u8
     ((row >> (4 * ((t % 16) as u64))) % 16) as u8
 }
 
-// What a section's gate gives from pins in two sets.
+// What a section's gate gives from pins in two sets. Sections and ways are numbers, as `Stepped` and `Paired` of specs/Sets.antt count them, and
+// rows are found by 16 x section + set.
 pub fn forward(o: usize, s: u8, t: u8) -> u8
     requires { o < 3 }
     ensures { Forward o s t result }
@@ -33,51 +36,38 @@ pub fn common(s: u8, t: u8) -> u8
     s & t
 }
 
-// Two parts of a set.
-#[derive(Clone, Copy)]
-pub struct Parts {
-    pub one: u8,
-    pub other: u8,
-}
-
 // A set in two parts: by the good value, or else by whether the pairs differ. One pair alone is the first part.
-pub fn split(s: u8) -> Parts
-    ensures { Parted s result.one result.other }
+pub fn split(s: u8) -> (u8, u8)
+    ensures { Parted s result.0 result.1 }
 {
     let one = set_at(0x9898_9888_1414_1210, s);
     let other = set_at(0x6644_2210_6240_2000, s);
-    Parts { one, other }
+    (one, other)
 }
 
-// What a set's pairs become where their faulty value is held at s, 0 or 1.
-pub fn held(s: u8, x: u8) -> u8
-    ensures { Held s x result }
+// What a set's pairs become where their faulty value is held at 0 or 1.
+pub fn held(stuck: Option<u8>, x: u8) -> u8
+    ensures { Held (unwrap_or stuck 2) x result }
 {
-    if s == 0 {
-        return set_at(0x5555_5511_5454_5410, x);
-    }
-    if s == 1 {
-        set_at(0xaaaa_aa88_a2a2_a280, x)
-    } else {
-        x
+    match stuck {
+        Some(0) => set_at(0x5555_5511_5454_5410, x),
+        Some(1) => set_at(0xaaaa_aa88_a2a2_a280, x),
+        _ => x,
     }
 }
 
-// What becomes a pair of a set where its faulty value is held at s, 0 or 1.
-pub fn freed(s: u8, z: u8) -> u8
-    ensures { Freed s z result }
+// What becomes a pair of a set where its faulty value is held at 0 or 1.
+pub fn freed(stuck: Option<u8>, z: u8) -> u8
+    ensures { Freed (unwrap_or stuck 2) z result }
 {
-    if s == 0 {
-        return set_at(0xf6f6_9090_f6f6_9090, z);
-    }
-    if s == 1 {
-        set_at(0xff99_ff99_6600_6600, z)
-    } else {
-        z
+    match stuck {
+        Some(0) => set_at(0xf6f6_9090_f6f6_9090, z),
+        Some(1) => set_at(0xff99_ff99_6600_6600, z),
+        _ => z,
     }
 }
 
-// Every pair with the good value of a pair in the set, turned where f is odd.
+// Every pair with the good value of a pair in the set, turned where f is odd. Any number may come, so f is no bool.
 pub fn follows(f: u8, s: u8) -> u8
     ensures { Follows f s result }
 {
@@ -99,81 +89,58 @@ fn turn_row(way: usize) -> u64
     }
 }
 
-// What is left of a pin and of what stands before it.
-#[derive(Clone, Copy)]
-struct Two {
-    pin: u8,
-    before: u8,
-}
-
-// A pin and what stands before it, each from the other and from what their gate gives.
-fn pin_step(o: usize, z: u8, p: u8, x: u8) -> Two
+// What is left of a pin and of what stands before it, each from the other and from what their gate gives.
+fn pin_step(o: usize, z: u8, p: u8, x: u8) -> (u8, u8)
     requires { o < 3 }
-    ensures { Back o z p x result.pin result.before }
+    ensures { Back o z p x result.0 result.1 }
 {
     let row = backward_row(16 * o + (z as usize));
     let pin = common(x, set_at(row, p));
     let before = common(p, set_at(row, x));
-    Two { pin, before }
+    (pin, before)
 }
 
-// The sets of a gate's line and its four pins.
+// The sets of a gate's line and its pins.
 #[derive(Clone, Copy)]
-pub struct Sets5 {
+pub struct GateSets<const N: usize> {
     pub line: u8,
-    pub a: u8,
-    pub b: u8,
-    pub c: u8,
-    pub d: u8,
+    pub pins: [u8; N],
 }
 
 // A gate's step: its line from its pins, then each pin from the line and the other pins. The way is twice the section, and one more where the gate
 // is turned.
-pub fn gate_step(way: usize, s: Sets5) -> Sets5
+pub fn gate_step(way: usize, s: GateSets<4>) -> GateSets<4>
     requires { way < 6 }
-    ensures { Stepped (way / 2) (way % 2) s.line s.a s.b s.c s.d result.line result.a result.b result.c result.d }
+    ensures { let p = slice_index s.pins in let q = slice_index result.pins in Stepped (way / 2) (way % 2) s.line (p 0) (p 1) (p 2) (p 3) result.line (q 0) (q 1) (q 2) (q 3) }
 {
     let o = way / 2;
     let turn = turn_row(way);
-    let p1 = forward(o, s.a, s.b);
-    let p2 = forward(o, p1, s.c);
-    let p3 = forward(o, p2, s.d);
+    let [a, b, c, d] = s.pins;
+    let p1 = forward(o, a, b);
+    let p2 = forward(o, p1, c);
+    let p3 = forward(o, p2, d);
     let z = common(set_at(turn, s.line), p3);
-    let q2 = pin_step(o, z, p2, s.d);
-    let q1 = pin_step(o, q2.before, p1, s.c);
-    let q0 = pin_step(o, q1.before, s.a, s.b);
+    let (d, q2) = pin_step(o, z, p2, d);
+    let (c, q1) = pin_step(o, q2, p1, c);
+    let (b, a) = pin_step(o, q1, a, b);
     let line = set_at(turn, z);
-    Sets5 {
+    GateSets {
         line,
-        a: q0.before,
-        b: q0.pin,
-        c: q1.pin,
-        d: q2.pin,
+        pins: [a, b, c, d],
     }
-}
-
-// The sets of a gate's line and its two pins.
-#[derive(Clone, Copy)]
-pub struct Sets3 {
-    pub line: u8,
-    pub a: u8,
-    pub b: u8,
 }
 
 // The step of a gate of at most two pins, the absent ones filled.
-pub fn pair_step(way: usize, s: Sets3) -> Sets3
+pub fn pair_step(way: usize, s: GateSets<2>) -> GateSets<2>
     requires { way < 6 }
-    ensures { Paired way s.line s.a s.b result.line result.a result.b }
+    ensures { let p = slice_index s.pins in let q = slice_index result.pins in Paired way s.line (p 0) (p 1) result.line (q 0) (q 1) }
 {
     let o = way / 2;
     let turn = turn_row(way);
-    let p = forward(o, s.a, s.b);
+    let [a, b] = s.pins;
+    let p = forward(o, a, b);
     let z = common(set_at(turn, s.line), p);
-    let q = pin_step(o, z, s.a, s.b);
+    let (b, a) = pin_step(o, z, a, b);
     let line = set_at(turn, z);
-    Sets3 {
-        line,
-        a: q.before,
-        b: q.pin,
-    }
+    GateSets { line, pins: [a, b] }
 }

@@ -1,32 +1,38 @@
--- A span one number further, and where a mark first stands in it.
-use Rattle.std.proofs.Common.{◌≡◌, ℕ, suc, ◌+◌, ◌-◌, ◌<◌, ◌≤◌, List, [], ◌∷◌, true, false, eqb, length, get_or, arith, add-one, drop-cons}
-use Rattle.spans.specs.Span.{index_of, slice}
+-- Where a mark first stands in a list, and where a search for it finds it.
+use Rattle.std.proofs.Common.{◌≡◌, ℕ, ◌<◌, ◌≤◌, ◌+◌, suc, List, [], ◌∷◌, Bool, true, false, not, cond, eqb, ltb, length, Some, None, refl, sym, ◌∙◌, arith}
+use Rattle.std.specs.List.{position, position_or_len}
+use borrow.Author.Tests.{ltb-true, ltb-false}
+use Rattle.spans.specs.Span.{index_after, index_of}
 
--- a span that is not empty begins with the number at its start
-slice_cons : (start end : ℕ) (s : List ℕ) → start < end → end ≤ length s → slice start end s ≡ get_or s start 0 ∷ slice (start + 1) end s
-unfolding slice
-slice_cons start end s l m =
-    let inside : start < length s = omega arith in
-    let more : end - start ≡ suc (end - suc start) = omega arith in
-    rw (add-one, more, drop-cons s start 0)
-
--- a span from its end on is empty
-slice_none : (end : ℕ) (s : List ℕ) → slice end end s ≡ []
-unfolding slice
-slice_none end s = let none : end - end ≡ 0 = omega arith in rw none
-
-module _ (mark start end : ℕ) (s : List ℕ) (inside : start < end) (long : end ≤ length s) where
-  -- the mark stands first where the span begins with it
-  pub found_here : eqb (get_or s start 0) mark ≡ true → index_of mark (slice start end s) ≡ 0
+module _ (mark : ℕ) where
+  index_is : (xs : List ℕ) → index_of mark xs ≡ position_or_len (λ x. eqb x mark) xs
   unfolding index_of
-  found_here e = rw (slice_cons start end s inside long, e)
+  index_is [] = refl
+  index_is (x ∷ xs) =
+      elim (eqb x mark) as (λ b. index_after b (index_of mark xs) ≡ cond (not b) (1 + position_or_len (λ y. eqb y mark) xs) 0) [ true ↦ refl | false ↦ omega (arith, index_is xs) ]
 
-  -- where the span begins with something else, the mark stands first in what is behind that
-  pub found_behind : eqb (get_or s start 0) mark ≡ false → start + index_of mark (slice start end s) ≡ start + 1 + index_of mark (slice (start + 1) end s)
+  index_few : (xs : List ℕ) → index_of mark xs ≤ length xs
   unfolding index_of
-  found_behind e = rw (slice_cons start end s inside long, e) (omega arith)
+  index_few [] = omega arith
+  index_few (x ∷ xs) =
+      let more = index_few xs in
+      elim (eqb x mark) as (λ b. index_after b (index_of mark xs) ≤ suc (length xs)) [ true ↦ omega arith | false ↦ omega arith ]
 
--- there is no mark in a span from its end on
-pub found_none : (mark end : ℕ) (s : List ℕ) → end + index_of mark (slice end end s) ≡ end
-unfolding index_of
-found_none mark end s = rw (slice_none end s) (omega arith)
+  -- what a search gives is where the mark first stands, and it gives none where that is nowhere
+  pub found : (xs : List ℕ) (at : ℕ) → position (λ x. eqb x mark) xs ≡ Some at → (at ≡ index_of mark xs) × (at < length xs)
+  found xs at e = go (ltb (position_or_len (λ x. eqb x mark) xs) (length xs)) refl e
+    where
+      go : (b : Bool) → ltb (position_or_len (λ x. eqb x mark) xs) (length xs) ≡ b → cond b (Some (position_or_len (λ x. eqb x mark) xs)) None ≡ Some at
+          → (at ≡ index_of mark xs) × (at < length xs)
+      go true t e =
+          let is : position_or_len (λ x. eqb x mark) xs ≡ at = cc in
+          let inside = ltb-true _ _ t in
+          (sym (index_is xs ∙ is), omega arith)
+      go false t e = cc
+
+  pub found_none : (xs : List ℕ) → position (λ x. eqb x mark) xs ≡ None → index_of mark xs ≡ length xs
+  found_none xs e = go (ltb (position_or_len (λ x. eqb x mark) xs) (length xs)) refl e
+    where
+      go : (b : Bool) → ltb (position_or_len (λ x. eqb x mark) xs) (length xs) ≡ b → cond b (Some (position_or_len (λ x. eqb x mark) xs)) None ≡ None → index_of mark xs ≡ length xs
+      go true t e = cc
+      go false t e = let over = ltb-false _ _ t in let few = index_few xs in omega (arith, index_is xs)

@@ -2,22 +2,25 @@
 
 #![tactic(auto)]
 
-ghost use Rattle.std.specs.Prelude.{◌≡◌, ◌+◌, ◌≤◌, ◌++◌, drop, length};
+ghost use Rattle.std.specs.Prelude.{◌≡◌, ◌==◌, ◌+◌, ◌≤◌, ◌++◌, drop, length, position};
 ghost use Rattle.spans.specs.Span.{index_of, slice};
 
-// Where the first `mark` among the bytes from start to end stands; end where there is none.
+// Where the first `mark` of some bytes stands.
+fn first(s: &[u8], mark: u8) -> Option<usize>
+    ensures { result ≡ position (λ x. x == mark) s.now }
+{
+    s.iter().position(|b| *b == mark)
+}
+
+// Where the first `mark` among the bytes from start to end stands; end where there is none, as its contract's `index_of` counts.
 pub fn find(s: &[u8], start: usize, end: usize, mark: u8) -> usize
     requires { (start ≤ end) × (end ≤ length s.now) }
     ensures { (result ≡ start + index_of mark (slice start end s.now)) × (result ≤ end) }
 {
-    let mut i = start;
-    while i < end {
-        if s[i] == mark {
-            return i;
-        }
-        i += 1;
+    match first(&s[start..end], mark) {
+        Some(at) => start + at,
+        None => end,
     }
-    end
 }
 
 // Copies src to the front of dst, and gives how long it is.

@@ -1,4 +1,3 @@
 pub mod Made
 pub mod Decimal
-pub mod Form
 pub mod Each

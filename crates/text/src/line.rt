@@ -1,13 +1,14 @@
-// The buffer that a line is made in.
-ghost use Rattle.std.specs.Prelude.{◌≡◌, length};
+// A line, and the buffer that it is made in.
+ghost use Rattle.std.specs.Prelude.{◌≤◌};
 ghost use Rattle.text.specs.Text.{line_room};
 
-// How many bytes it has.
-const LINE: usize = 96;
+// How many bytes the buffer has: `line_room` of the specs.
+pub const LINE: usize = 96;
 
-// Room for a line.
-pub fn blank_line() -> [u8; LINE]
-    ensures { line_room ≡ length result }
-{
-    [0u8; LINE]
+// A line as far as it is made: so many bytes in front.
+#[derive(Drop)]
+pub struct Line {
+    pub bytes: [u8; LINE],
+    pub length: usize,
+    ghost within: { length ≤ line_room },
 }

@@ -1,4 +1,4 @@
-// Text put together in a buffer, piece by piece.
+// Text put together in a buffer, piece by piece. The buffer is the caller's: nothing here asks for memory, and what is made is copied once.
 ghost use Rattle.std.specs.Prelude.{◌≡◌, ◌++◌, ◌+◌, ◌≤◌, length, take};
 ghost use Rattle.text.specs.Text.{decimal};
 

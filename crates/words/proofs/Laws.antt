@@ -1,6 +1,6 @@
-pub mod Parts
-pub mod Bytes
 pub mod Hex
 pub mod Number
+pub mod Parts
 pub mod Forms
 pub mod Command
+pub mod NoFault

@@ -1,25 +1,19 @@
 -- Faults: LINE/STUCK, or LINE.PIN/STUCK for one pin, a number in each place.
-use Rattle.std.specs.Prelude.{cond, ◌&&◌, List, ℕ, ◌+◌, min, eqb, length, drop}
+use Rattle.std.specs.Prelude.{Option, Some, None, option_and_then, List, ℕ, min}
+use Rattle.std.specs.Option.{option_map}
+use Rattle.board.specs.declared.Fault.{Fault}
 use Rattle.board.specs.declared.Fault.TheVariants.{Line, Pin}
-use Rattle.words.specs.Parts.{parts, part}
+use Rattle.words.specs.Parts.{split_once}
 use Rattle.words.specs.Number.{number_of}
-use Rattle.words.specs.declared.fault.Named.{Named}
 
--- what stands before a word's first mark, all of it where it has none; and behind it
-abbrev pub before : ℕ → List ℕ → List ℕ
-before mark w = part (parts mark w) 0
+-- the fault of a place, with what it is made of where it has a dot: a pin's there, else a line's
+abbrev pub fault_from : Option (List ℕ × List ℕ) → List ℕ → ℕ → Option Fault
+fault_from None place stuck = option_map (λ line. Line line stuck) (number_of place)
+fault_from (Some (line, pin)) place stuck = option_and_then (λ l. option_map (λ p. Pin l p stuck) (number_of pin)) (number_of line)
 
-abbrev pub behind : ℕ → List ℕ → List ℕ
-behind mark w = drop (length (before mark w) + 1) w
+abbrev pub fault_at : List ℕ → ℕ → Option Fault
+fault_at place stuck = fault_from (split_once 46 place) place stuck
 
--- what a word is read as: a line's fault where no dot stands before the slash, else a pin's; a stuck value that is wider than a byte is handed on as 255
-abbrev pub fault_of : List ℕ → Named
-fault_of w =
-    let place = before 47 w in
-    let line = number_of (before 46 place) in
-    let pin = number_of (behind 46 place) in
-    let read = number_of (behind 47 w) in
-    let stuck = min read.value 255 in
-    cond (eqb (length (before 46 place)) (length place))
-    (record { is = line.is && read.is; fault = Line line.value stuck })
-    (record { is = (line.is && pin.is) && read.is; fault = Pin line.value pin.value stuck })
+-- the fault that a word is read as; a stuck value that is wider than a byte is handed on as 255
+abbrev pub fault_of : List ℕ → Option Fault
+fault_of w = option_and_then (λ (place, stuck). option_and_then (λ value. fault_at place (min value 255)) (number_of stuck)) (split_once 47 w)

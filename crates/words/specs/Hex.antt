@@ -1,12 +1,13 @@
 -- HEX: two digits a byte, lower or upper case; `-` is no bytes.
 use Rattle.std.specs.Prelude.{Bool, ◌&&◌, ◌||◌, List, ℕ, ◌+◌, ◌*◌, ◌/◌, ◌%◌, eqb, length, get_or}
-use Rattle.board.specs.Lists.{build, text, same}
+use Rattle.std.specs.Char.{is_ascii_hexdigit}
+use Rattle.std.specs.Str.{bytes_eq}
+use Rattle.board.specs.Lists.{build, text}
 use Rattle.words.specs.Number.{is_all}
-use Rattle.words.specs.declared.sorts.Sort.TheVariants.{Hex}
 
 -- a word that is HEX
 abbrev pub is_hex : List ℕ → Bool
-is_hex w = same w (text "-") || (eqb (length w % 2) 0 && is_all Hex w)
+is_hex w = bytes_eq w (text "-") || (eqb (length w % 2) 0 && is_all is_ascii_hexdigit w)
 
 -- the value of a digit: its four low bits, and 9 more for a letter (A is byte 65, a 97); of any other byte, some number below 16
 abbrev pub hex_digit : ℕ → ℕ

@@ -4,4 +4,3 @@ pub mod Fault
 pub mod Hex
 pub mod Forms
 pub mod Command
-pub mod Inner

@@ -1,46 +1,31 @@
 -- Numbers: decimal digits that fit 64 bits.
-use Rattle.std.specs.Prelude.{Bool, true, false, cond, ◌&&◌, ◌||◌, not, List, [], ◌∷◌, ℕ, ◌+◌, ◌*◌, ◌-◌, ◌^◌, eqb, leb, ltb, length}
-use Rattle.words.specs.Parts.{part}
-use Rattle.words.specs.declared.sorts.Sort.{Sort}
-use Rattle.words.specs.declared.sorts.Sort.TheVariants.{Digit, Hex, Path}
-use Rattle.words.specs.declared.number.Number.{Number}
+use Rattle.std.specs.Prelude.{◌≡◌, Bool, cond, ◌&&◌, not, Option, Some, None, unwrap_or, option_and_then, List, [], ◌∷◌, ℕ, ◌+◌, ◌*◌, ◌-◌, ◌^◌, eqb, ltb, length, slice_get}
+use denote.Param.Members.{Mut}
+use denote.Ref.{Bor}
+use Rattle.std.specs.Fn.{Called}
+use Rattle.std.specs.List.{list_all}
+use Rattle.std.specs.Char.{is_ascii_digit}
 
--- the decimal digits; those of HEX; and the bytes of each sort, a path's being all but the tab and the carriage return
-abbrev pub is_digit : ℕ → Bool
-is_digit x = leb 48 x && leb x 57
+-- each call of f, at a byte, answers what p does, and leaves f as it is
+abbrev pub Tests : {F : Type 0} → Mut F (Bor ℕ × Unit {0}) Bool → (ℕ → Bool) → F → Type 0
+Tests {F} g p f = (x : Bor ℕ) (b : Bool) (after : F) → Called g f (x, tt) b after → (after ≡ f) × (b ≡ p x.now)
 
-abbrev pub is_hex_digit : ℕ → Bool
-is_hex_digit x = is_digit x || ((leb 65 x && leb x 70) || (leb 97 x && leb x 102))
+-- one byte or more, each of which passes the test
+abbrev pub is_all : (ℕ → Bool) → List ℕ → Bool
+is_all t w = not (eqb (length w) 0) && list_all t w
 
-abbrev pub is_of : Sort → ℕ → Bool
-is_of Digit x = is_digit x
-is_of Hex x = is_hex_digit x
-is_of Path x = not (eqb x 9) && not (eqb x 13)
-
--- each byte passes the test
-unfoldable pub every : (ℕ → Bool) → List ℕ → Bool
-every t [] = true
-every t (x ∷ xs) = t x && every t xs
-
--- one byte or more, each of that sort
-abbrev pub is_all : Sort → List ℕ → Bool
-is_all sort w = ltb 0 (length w) && every (is_of sort) w
-
--- the value of digits behind those that came to v; and of a whole word
+-- the value of digits behind those that came to v
 unfoldable pub value_from : ℕ → List ℕ → ℕ
 value_from v [] = v
 value_from v (x ∷ xs) = value_from (10 * v + (x - 48)) xs
 
-abbrev pub value_of : List ℕ → ℕ
-value_of w = value_from 0 w
+-- what digits behind those that came to v are read as; and a word: a number is one or more decimal digits whose value fits 64 bits
+abbrev pub numeral : ℕ → List ℕ → Option ℕ
+numeral v w = cond (list_all is_ascii_digit w && ltb (value_from v w) (2 ^ 64)) (Some (value_from v w)) None
 
--- what a word is read as that is no number; and any word: a number is one or more decimal digits whose value fits 64 bits
-abbrev pub no_number : Number
-no_number = record { is = false; value = 0 }
+unfoldable pub number_of : List ℕ → Option ℕ
+number_of w = cond (eqb (length w) 0) None (numeral 0 w)
 
-unfoldable pub number_of : List ℕ → Number
-number_of w = cond (is_all Digit w && ltb (value_of w) (2 ^ 64)) (record { is = true; value = value_of w }) no_number
-
--- the number of the part at a place, 0 where it is none
+-- the number of the word at a place, counted from 0; 0 where it is none
 abbrev pub number_at : List (List ℕ) → ℕ → ℕ
-number_at ps i = (number_of (part ps i)).value
+number_at ws i = unwrap_or (option_and_then number_of (slice_get ws i)) 0

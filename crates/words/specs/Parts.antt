@@ -1,28 +1,18 @@
 -- The parts of a text between marks, as a line's words between its spaces.
-use Rattle.std.specs.Prelude.{Bool, true, false, List, [], ◌∷◌, ℕ, zero, suc, eqb}
+use Rattle.std.specs.Prelude.{Option, List, [], ◌∷◌, ℕ, ◌+◌, eqb, take, drop}
+use Rattle.std.specs.List.{slice_split, position}
+use Rattle.std.specs.Option.{option_map}
 
--- one byte more in front of the first part; a mark begins a part of its own
-abbrev pub grown : Bool → ℕ → List (List ℕ) → List (List ℕ)
-grown true x ps = [] ∷ ps
-grown false x [] = (x ∷ []) ∷ []
-grown false x (p ∷ ps) = (x ∷ p) ∷ ps
-
--- what stands between the marks: always one part more than there are marks
-unfoldable pub parts : ℕ → List ℕ → List (List ℕ)
-parts mark [] = [] ∷ []
-parts mark (x ∷ xs) = grown (eqb x mark) x (parts mark xs)
-
--- a line's words, between its spaces
+-- a line's words, between its spaces: always one word more than there are spaces
 abbrev pub words : List ℕ → List (List ℕ)
-words s = parts 32 s
+words s = slice_split (λ x. eqb x 32) s
 
--- a part by its place, counted from 0, and the last one; where there is none, no bytes
-abbrev pub part : List (List ℕ) → ℕ → List ℕ
-part [] i = []
-part (p ∷ ps) zero = p
-part (p ∷ ps) (suc i) = part ps i
-
+-- the last of them; where there is none, no bytes
 unfoldable pub last : List (List ℕ) → List ℕ
 last [] = []
 last (p ∷ []) = p
 last (p ∷ q ∷ ps) = last (q ∷ ps)
+
+-- what stands before a word's first mark, and behind it, where it has one
+abbrev pub split_once : ℕ → List ℕ → Option (List ℕ × List ℕ)
+split_once mark w = option_map (λ at. (take at w, drop (at + 1) w)) (position (λ x. eqb x mark) w)

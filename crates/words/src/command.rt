@@ -1,13 +1,12 @@
 // What a command line asks for.
-ghost use Rattle.std.specs.Prelude.{◌≡◌, ◌≤◌};
-ghost use Rattle.words.specs.Command.{table, values_of, asks_at, command_of};
+ghost use Rattle.std.specs.Prelude.{◌≡◌, map};
+ghost use Rattle.words.specs.Parts.{words, last};
+ghost use Rattle.words.specs.Command.{shown, anew_forms, image_forms, row_forms, book_forms, target_forms, other_forms, or_first, first_in, values_of, command_of};
 
 use crate::fault::fault_of;
-use crate::forms::{Form, form_of};
+use crate::forms::form_fit;
 use crate::number::number_at;
-use crate::parts::{last_start, next_start};
 use board::{Fault, Sort};
-use image::numbers::tail;
 
 // Why a line can't be read: it is empty, is no command, has too few or too many words, or a word is not what the command asks for there.
 #[derive(Clone, Copy)]
@@ -92,7 +91,7 @@ pub enum OnTarget {
     Write,
 }
 
-// What a line asks for, or why it can't be read.
+// What a line asks for.
 #[derive(Clone, Copy)]
 pub enum Command {
     Anew(Anew),
@@ -102,10 +101,9 @@ pub enum Command {
     OnTarget(OnTarget),
     Alter { line: u64, from: usize },
     Help,
-    Unread(Why),
 }
 
-// What a line's words stand for: words 1, 2 and 3 as numbers, the last as a fault, and where the last begins.
+// What a line's words stand for: words 1, 2 and 3 as numbers, 0 for none; the last as a fault, line 0's for none; and where the last begins.
 #[derive(Clone, Copy)]
 pub struct Values {
     pub one: u64,
@@ -115,126 +113,195 @@ pub struct Values {
     pub from: usize,
 }
 
+// A row of the table of commands: a form, and what a line of that form asks for.
+#[derive(Clone, Copy)]
+struct Row {
+    form: &'static [u8],
+    asks: Command,
+}
+
+// A line's last word.
+fn last_word(line: &[u8]) -> &[u8]
+    ensures { result.now ≡ last (words line.now) }
+{
+    line.split(|x| *x == b' ').last().unwrap_or(&[])
+}
+
 // Gives what a line's words stand for.
 fn values_of(line: &[u8]) -> Values
     ensures { result ≡ values_of line.now }
 {
-    let first = next_start(line, b' ', 0);
-    let second = next_start(line, b' ', first);
-    let third = next_start(line, b' ', second);
-    let from = last_start(line, b' ');
-    let fault = fault_of(tail(line, from)).fault;
+    let last = last_word(line);
     Values {
-        one: number_at(line, b' ', first),
-        two: number_at(line, b' ', second),
-        three: number_at(line, b' ', third),
+        one: number_at(line, 1),
+        two: number_at(line, 2),
+        three: number_at(line, 3),
+        fault: fault_of(last).unwrap_or(Fault::Line { line: 0, stuck: 0 }),
+        from: line.len() - last.len(),
+    }
+}
+
+// A row of the table.
+fn asked_by(form: &'static [u8], asks: Command) -> Row
+    ensures { shown result ≡ record { form = form.now; asks = asks } }
+{
+    Row { form, asks }
+}
+
+// The forms of the commands that bring a new image.
+#[tactic(auto, unfolding(crate::specs::Command::anew_forms))]
+fn anew_forms(v: Values) -> [Row; 3]
+    ensures { map shown result ≡ anew_forms v }
+{
+    let from = v.from;
+    [
+        asked_by(b"load H", Command::Anew(Anew::Load { from })),
+        asked_by(b"open P", Command::Anew(Anew::Open { from })),
+        asked_by(b"import P", Command::Anew(Anew::Import { from })),
+    ]
+}
+
+// Those of the commands that use the image alone.
+#[tactic(auto, unfolding(crate::specs::Command::image_forms))]
+fn image_forms(v: Values) -> [Row; 6]
+    ensures { map shown result ≡ image_forms v }
+{
+    let (fault, from) = (v.fault, v.from);
+    let judge = OnImage::Judge {
+        pattern: v.one,
         fault,
-        from,
-    }
+    };
+    [
+        asked_by(b"save P", Command::OnImage(OnImage::Save { from })),
+        asked_by(b"export P", Command::OnImage(OnImage::Export { from })),
+        asked_by(b"image", Command::OnImage(OnImage::Image)),
+        asked_by(b"check", Command::OnImage(OnImage::Check)),
+        asked_by(b"judge N F", Command::OnImage(judge)),
+        asked_by(b"find F", Command::OnImage(OnImage::Find { fault })),
+    ]
 }
 
-// Gives what the form at a place asks for: a new image, or a command on the image alone.
-fn asked(form: usize, v: Values) -> Command
-    ensures { result ≡ asks_at (table v) form }
+// Those of the commands that use the rows.
+#[tactic(auto, unfolding(crate::specs::Command::row_forms))]
+fn row_forms(v: Values) -> [Row; 8]
+    ensures { map shown result ≡ row_forms v }
 {
-    let fault = v.fault;
-    match form {
-        0 => Command::Anew(Anew::Load { from: v.from }),
-        1 => Command::Anew(Anew::Open { from: v.from }),
-        2 => Command::Anew(Anew::Import { from: v.from }),
-        3 => Command::OnImage(OnImage::Save { from: v.from }),
-        4 => Command::OnImage(OnImage::Export { from: v.from }),
-        5 => Command::OnImage(OnImage::Image),
-        6 => Command::OnImage(OnImage::Check),
-        7 => Command::OnImage(OnImage::Judge {
-            pattern: v.one,
-            fault,
-        }),
-        8 => Command::OnImage(OnImage::Find { fault }),
-        _ => asked_on_rows(form, v),
-    }
+    let (start, fault, from) = (v.two, v.fault, v.from);
+    let lend = OnRows::Lend {
+        good: v.two,
+        faulty: v.three,
+    };
+    let rows = OnRows::Rows {
+        pattern: v.one,
+        fault,
+    };
+    let refresh = OnRows::Refresh {
+        line: v.one,
+        pattern: v.two,
+    };
+    let five = OnRows::Five {
+        named: v.one,
+        values: v.two,
+        fault,
+    };
+    [
+        asked_by(b"lend rows N N", Command::OnRows(lend)),
+        asked_by(b"put good H", Command::OnRows(OnRows::PutGood { from })),
+        asked_by(b"put faulty H", Command::OnRows(OnRows::PutFaulty { from })),
+        asked_by(b"rows N F", Command::OnRows(rows)),
+        asked_by(b"refresh N N", Command::OnRows(refresh)),
+        asked_by(b"five N N F", Command::OnRows(five)),
+        asked_by(b"show good N", Command::OnRows(OnRows::ShowGood { start })),
+        asked_by(
+            b"show faulty N",
+            Command::OnRows(OnRows::ShowFaulty { start }),
+        ),
+    ]
 }
 
-// The same for the commands on the rows.
-fn asked_on_rows(form: usize, v: Values) -> Command
-    requires { 9 ≤ form }
-    ensures { result ≡ asks_at (table v) form }
-{
-    let fault = v.fault;
-    match form {
-        9 => Command::OnRows(OnRows::Lend {
-            good: v.two,
-            faulty: v.three,
-        }),
-        10 => Command::OnRows(OnRows::PutGood { from: v.from }),
-        11 => Command::OnRows(OnRows::PutFaulty { from: v.from }),
-        12 => Command::OnRows(OnRows::Rows {
-            pattern: v.one,
-            fault,
-        }),
-        13 => Command::OnRows(OnRows::Refresh {
-            line: v.one,
-            pattern: v.two,
-        }),
-        14 => Command::OnRows(OnRows::Five {
-            named: v.one,
-            values: v.two,
-            fault,
-        }),
-        15 => Command::OnRows(OnRows::ShowGood { start: v.two }),
-        16 => Command::OnRows(OnRows::ShowFaulty { start: v.two }),
-        _ => asked_on_book(form, v),
-    }
-}
-
-// The same for the commands on one book.
-fn asked_on_book(form: usize, v: Values) -> Command
-    requires { 17 ≤ form }
-    ensures { result ≡ asks_at (table v) form }
+// Those of the commands that use one book.
+#[tactic(auto, unfolding(crate::specs::Command::book_forms))]
+fn book_forms(v: Values) -> [Row; 8]
+    ensures { map shown result ≡ book_forms v }
 {
     let lend = OnBook::Lend { numbers: v.two };
     let put = OnBook::Put {
         place: v.two,
         number: v.three,
     };
-    match form {
-        17 => Command::OnBook(Sort::Lines, lend),
-        18 => Command::OnBook(Sort::Lines, put),
-        19 => Command::OnBook(Sort::Lines, OnBook::Book),
-        20 => Command::OnBook(Sort::Lines, OnBook::Entries),
-        21 => Command::OnBook(Sort::Pins, lend),
-        22 => Command::OnBook(Sort::Pins, put),
-        23 => Command::OnBook(Sort::Pins, OnBook::Book),
-        24 => Command::OnBook(Sort::Pins, OnBook::Entries),
-        _ => asked_on_target(form, v),
-    }
+    [
+        asked_by(b"lend book N", Command::OnBook(Sort::Lines, lend)),
+        asked_by(b"put entry N N", Command::OnBook(Sort::Lines, put)),
+        asked_by(b"book", Command::OnBook(Sort::Lines, OnBook::Book)),
+        asked_by(b"entries", Command::OnBook(Sort::Lines, OnBook::Entries)),
+        asked_by(b"lend pins N", Command::OnBook(Sort::Pins, lend)),
+        asked_by(b"put pin N N", Command::OnBook(Sort::Pins, put)),
+        asked_by(b"pin book", Command::OnBook(Sort::Pins, OnBook::Book)),
+        asked_by(b"pin entries", Command::OnBook(Sort::Pins, OnBook::Entries)),
+    ]
 }
 
-// The same for the commands on the target, for `alter` and for `help`.
-fn asked_on_target(form: usize, v: Values) -> Command
-    requires { 25 ≤ form }
-    ensures { result ≡ asks_at (table v) form }
+// Those of the commands that use the target.
+#[tactic(auto, unfolding(crate::specs::Command::target_forms))]
+fn target_forms(v: Values) -> [Row; 4]
+    ensures { map shown result ≡ target_forms v }
 {
-    match form {
-        25 => Command::OnTarget(OnTarget::Lend { bytes: v.two }),
-        26 => Command::OnTarget(OnTarget::Target),
-        27 => Command::OnTarget(OnTarget::Read { from: v.from }),
-        28 => Command::OnTarget(OnTarget::Write),
-        29 => Command::Alter {
-            line: v.one,
-            from: v.from,
-        },
-        30 => Command::Help,
-        _ => Command::Unread(Why::Unknown),
-    }
+    let (bytes, from) = (v.two, v.from);
+    [
+        asked_by(
+            b"lend target N",
+            Command::OnTarget(OnTarget::Lend { bytes }),
+        ),
+        asked_by(b"target", Command::OnTarget(OnTarget::Target)),
+        asked_by(b"read H", Command::OnTarget(OnTarget::Read { from })),
+        asked_by(b"write", Command::OnTarget(OnTarget::Write)),
+    ]
 }
 
-// Gives what a line, without its line feed, asks for.
-pub fn read(line: &[u8]) -> Command
+// That of the command which uses both books, and of the one that lists them all.
+#[tactic(auto, unfolding(crate::specs::Command::other_forms))]
+fn other_forms(v: Values) -> [Row; 2]
+    ensures { map shown result ≡ other_forms v }
+{
+    let (line, from) = (v.one, v.from);
+    [
+        asked_by(b"alter N H", Command::Alter { line, from }),
+        asked_by(b"help", Command::Help),
+    ]
+}
+
+// What was found, or else what the first of some rows whose name a line has asks for.
+fn or_first(
+    found: Result<Option<Command>, Why>,
+    rows: &[Row],
+    line: &[u8],
+) -> Result<Option<Command>, Why>
+    ensures { result ≡ or_first found (first_in (map shown rows.now) (words line.now)) }
+{
+    if found?.is_some() {
+        return found;
+    }
+    for row in rows {
+        if form_fit(row.form, line)? {
+            return Ok(Some(row.asks));
+        }
+    }
+    Ok(None)
+}
+
+// Gives what a line, without its line feed, asks for, or why it can't be read.
+pub fn read(line: &[u8]) -> Result<Command, Why>
     ensures { result ≡ command_of line.now }
 {
-    match form_of(line) {
-        Form::None(why) => Command::Unread(why),
-        Form::At(k) => asked(k, values_of(line)),
+    if line.is_empty() {
+        return Err(Why::Empty);
     }
+    let v = values_of(line);
+    let found = or_first(Ok(None), &anew_forms(v), line);
+    let found = or_first(found, &image_forms(v), line);
+    let found = or_first(found, &row_forms(v), line);
+    let found = or_first(found, &book_forms(v), line);
+    let found = or_first(found, &target_forms(v), line);
+    let found = or_first(found, &other_forms(v), line);
+    found?.ok_or(Why::Unknown)
 }

@@ -2,10 +2,9 @@
 
 #![tactic(auto)]
 
+mod bytes;
 pub mod command;
 mod fault;
 mod forms;
 pub mod hex;
 mod number;
-mod parts;
-mod sorts;

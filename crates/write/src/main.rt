@@ -2,18 +2,18 @@
 
 #![tactic(auto)]
 
-use drawing::Made;
 use report::input::read_image;
-use report::output::{write_out, write_refusal};
-use report::rooms::{blank_image, blank_target};
+use report::output::write_refusal;
+use report::rooms::{TARGET_ROOM, blank_image};
 use std::io;
+use std::io::Write;
 
 // Writes the drawing of an image, or its refusal.
 fn write_drawing(rt: &HostRuntime, img: &[u8]) -> io::Result<()> {
-    let mut text = blank_target();
+    let mut text = [0u8; TARGET_ROOM];
     match drawing::write(img, &mut text) {
-        Made::Bytes(n) => write_out(&mut rt.stdout(), &text, n),
-        Made::Refused(r) => write_refusal(&mut rt.stderr(), r),
+        Ok(n) => rt.stdout().write_all(&text[..n]),
+        Err(r) => write_refusal(&mut rt.stderr(), r),
     }
 }
 

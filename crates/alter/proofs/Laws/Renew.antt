@@ -44,10 +44,10 @@ module _ {s : List ℕ} {c : Counts} {line : ℕ} {new : List ℕ} {books : Book
     pub known_after : Known t c
     known_after = rw put (still_known s line new asked.ten asked.known.ok asked.inside fits asked.known)
 
-    pub renews_after : (sort : Sort) → Renewable sort t c (books sort)
+    pub renews_after : (sort : Sort) → Renewable sort t (books sort)
     renews_after sort =
         let same = same_lines s line new asked.ten asked.known.ok asked.inside in
-        record { known = known_after; faults = λ k l. on_lines sort t (length (books sort)) k (rw (put, same) (asked.long sort)) l }
+        record { faults = λ k l. on_lines sort t (length (books sort)) k (rw (put, same) (asked.long sort)) l }
 
     module _ (bare : List ℕ) (none-marked : (l : ℕ) → get_or bare l 0 ≡ 0) (room : length bare ≡ line_count s) (first : List ℕ) (met : Met (board_of s) line bare first) where
       after : board_of t ≡ altered (board_of s) line (record_at new 0)

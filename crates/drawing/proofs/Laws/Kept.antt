@@ -1,23 +1,27 @@
 -- What is kept of a board with one statement more, and that a statement's numbers have room.
-use mathlib.Core.Path.{◌≡◌, refl, sym, ap, ◌∙◌}
-use mathlib.Core.Logic.{inl, inr}
+use mathlib.Core.Path.{◌≡◌, refl, sym, ap}
+use mathlib.Core.Logic.{⊎_elim, inl, inr}
+use mathlib.Core.Bool.{true, false}
 use mathlib.Core.List.{List, [], ◌∷◌, ◌++◌, append-nil, append_assoc}
 use Prim.Native.Nat.{ℕ, zero, suc, ◌+◌, ◌*◌, ◌≤◌, ◌<◌}
 use native.Mathlib.Omega.{arith}
-use lib.Dec.{lit<}
-use lib.ListN.{length, get_or, take, replicate, length-append}
+use lib.Dec.{ltb, lit<}
+use lib.ListN.{length, get_or, take, replicate, length-append, length-take}
 use lib.Seq.{get_or-take}
+use borrow.Author.Tests.{ltb-true, ltb-false}
+use Rattle.std.proofs.lemmas.List.{get_or_past}
+use Rattle.std.specs.Prelude.{Ok}
 use Rattle.board.specs.Lists.{◌among◌}
 use Rattle.board.specs.Limits.{most_lines, most_outputs}
 use Rattle.board.specs.Board.{Record, Board}
+use Rattle.board.proofs.Lists.{way}
 use Rattle.text.specs.Text.{each}
 use Rattle.drawing.specs.Form.{last_number}
 use Rattle.drawing.specs.Image.{word_bytes, record_bytes, lines_bytes}
-use Rattle.drawing.specs.Inner.{bare, four, Small, Kept, output, gate, Sound, an_output, a_gate, Lined, Storable, KeepsMore}
-use Rattle.drawing.specs.declared.pins.Four.{Four}
+use Rattle.drawing.specs.Inner.{bare, Small, Kept, output, gate, Sound, an_output, a_gate, Lined, Storable, KeepsMore}
 use Rattle.drawing.specs.declared.form.Tally.{Tally}
 use Rattle.drawing.specs.declared.line.Line.{Line}
-use Rattle.drawing.specs.declared.line.Line.TheVariants.{Input, Output, Gate, LineStop}
+use Rattle.drawing.specs.declared.line.Line.TheVariants.{Input, Output, Gate}
 use Rattle.drawing.proofs.Laws.Sofar.{each_end}
 
 -- the bytes of one line more
@@ -39,18 +43,18 @@ module _ (c : Tally) (records outputs after : List ℕ) where
         outs = kept.outs;
       }
 
-  pub keeps_input : (n : ℕ) (pins : Four) → four pins ≡ replicate 4 0
-      → (c.lines < most_lines → take (10 * c.lines + 10) after ≡ take (10 * c.lines) records ++ (0 ∷ 0 ∷ each word_bytes (four pins)))
+  pub keeps_input : (n : ℕ) (pins : List ℕ) → pins ≡ replicate 4 0
+      → (c.lines < most_lines → take (10 * c.lines + 10) after ≡ take (10 * c.lines) records ++ (0 ∷ 0 ∷ each word_bytes pins))
       → KeepsMore (Input n) c records outputs after outputs
   keeps_input n pins zeros puts b st told lines outs kept =
-      rw told (record_kept bare (0 ∷ 0 ∷ each word_bytes (four pins)) (ap (λ (z : List ℕ). 0 ∷ 0 ∷ each word_bytes z) zeros) puts b lines kept)
+      rw told (record_kept bare (0 ∷ 0 ∷ each word_bytes pins) (ap (λ (z : List ℕ). 0 ∷ 0 ∷ each word_bytes z) zeros) puts b lines kept)
 
-  pub keeps_gate : (kind count : ℕ) (pins : Four) (n : ℕ)
-      → (c.lines < most_lines → take (10 * c.lines + 10) after ≡ take (10 * c.lines) records ++ (kind ∷ count ∷ each word_bytes (four pins)))
+  pub keeps_gate : (kind count : ℕ) (pins : List ℕ) (n : ℕ)
+      → (c.lines < most_lines → take (10 * c.lines + 10) after ≡ take (10 * c.lines) records ++ (kind ∷ count ∷ each word_bytes pins))
       → KeepsMore (Gate kind count pins n) c records outputs after outputs
   keeps_gate kind count pins n puts b st (ps, told, counts, holds) lines outs kept =
       rw told
-      (record_kept (record { kind = kind; pins = ps }) (kind ∷ count ∷ each word_bytes (four pins)) (rw (counts, holds)) puts b lines kept)
+      (record_kept (record { kind = kind; pins = ps }) (kind ∷ count ∷ each word_bytes pins) (rw (counts, holds)) puts b lines kept)
 
 -- an output more
 pub keeps_output : (c : Tally) (records outputs after : List ℕ) (o n : ℕ)
@@ -75,14 +79,19 @@ padded [] few (suc (suc (suc (suc i)))) = lit< tt
 padded (p ∷ ps) few zero = omega (arith, few p (inl refl))
 padded (p ∷ ps) few (suc i) = padded ps (λ q there. few q (inr there)) i
 
-small : (p : Four) (ps : List ℕ) → ((q : ℕ) → q among ps → q ≤ last_number) → four p ≡ take 4 (ps ++ replicate 4 0) → Small p
-small p ps few holds =
-    let at : (i : ℕ) → i < 4 → get_or (four p) i 0 < 65536 = λ i l.
-    omega (arith, padded ps few i, ap (λ (z : List ℕ). get_or z i 0) holds ∙ get_or-take 4 (ps ++ replicate 4 0) i 0 l) in
-    record { first = at 0 (lit< tt); second = at 1 (lit< tt); third = at 2 (lit< tt); fourth = at 3 (lit< tt) }
+small : (pins ps : List ℕ) → ((q : ℕ) → q among ps → q ≤ last_number) → pins ≡ take 4 (ps ++ replicate 4 0) → Small pins
+small pins ps few holds = λ i.
+    let four = ps ++ replicate 4 0 in
+    rw holds
+    (⊎_elim
+    (λ (e : ltb i 4 ≡ true). rw (get_or-take 4 four i 0 (ltb-true i 4 e)) (padded ps few i))
+    (λ (e : ltb i 4 ≡ false).
+    let past = ltb-false i 4 e in
+    rw (get_or_past (take 4 four) i 0 (omega (arith, length-take 4 four))) (lit< tt))
+    (way (ltb i 4)))
 
 -- so each statement that is read has room
-pub lined_storable : (from k : ℕ) (rest : List ℕ) (line : Line) → Lined from k rest line → Storable line
+pub lined_storable : (from k : ℕ) (rest : List ℕ) (line : Line) → Lined from k rest (Ok line) → Storable line
 lined_storable from k rest (Input n) begins = lit< tt
 lined_storable from k rest (Output o n) begins = go begins.sound
   where
@@ -92,4 +101,3 @@ lined_storable from k rest (Gate kind count pins n) (ps, begins, counts, holds) 
   where
     go : Sound (gate (record { kind = kind; pins = ps })) → (kind < 256) × (count < 256) × Small pins
     go (a_gate w) = (omega (arith, w.a_word), omega (arith, w.four_pins, counts), small pins ps w.numbers holds)
-lined_storable from k rest (LineStop m) stops = lit< tt

@@ -10,13 +10,12 @@ use lib.Dec.{ltb, eqb, lit≤}
 use lib.ListN.{length, take, drop, replicate, length-drop}
 use lib.Seq.{take-take, drop-drop}
 use borrow.Author.Tests.{ltb-true, eqb-true, eqb-false}
+use Rattle.std.specs.Prelude.{None, Ok}
 use Rattle.board.proofs.Lists.{way}
 use Rattle.text.specs.Text.{decimal}
 use Rattle.drawing.specs.Form.{last_number}
-use Rattle.drawing.specs.Inner.{piece_forms, piece, Stops, NoPiece, Digit, Leads, Counted, Chosen, PieceThen, pins_to, Pins, pins_rest, four, HasPins, GoesOn}
+use Rattle.drawing.specs.Inner.{piece_forms, piece, Stops, NoPiece, Digit, Leads, Counted, Chosen, PieceThen, pins_to, Pins, pins_rest, HasPins, GoesOn}
 use Rattle.drawing.specs.declared.number.Number.{Number}
-use Rattle.drawing.specs.declared.choose.Choice.TheVariants.{Took}
-use Rattle.drawing.specs.declared.pins.Four.{Four}
 use Rattle.drawing.proofs.Laws.Stops.{stops_same, piece_stops, piece-behind, number_stops, number_behind}
 
 -- what may follow a pin
@@ -61,10 +60,10 @@ begins left n u (which, a, b, v, is, e) =
     is
 
 -- a text that has no pin
-pub pin_none : (rest : List ℕ) (left : ℕ) (n : Number) → 0 < left → Counted rest n → n.length ≡ 0 → Stops (Pins left) rest 0
-pin_none rest zero n l (none-there, some-there) e = absurd (omega arith)
-pin_none rest (suc left) n l (none-there, some-there) e =
-    number_stops {K = λ p. PieceThen 3 (pins_to (suc left)) 0 (Behind left)} (λ c x is digit. none-there c x e is digit)
+pub pin_none : (rest : List ℕ) (left : ℕ) → 0 < left → Counted rest None → Stops (Pins left) rest 0
+pin_none rest zero l none-there = absurd (omega arith)
+pin_none rest (suc left) l none-there =
+    number_stops {K = λ p. PieceThen 3 (pins_to (suc left)) 0 (Behind left)} none-there
     (piece 3 0 ++ [], (3, lit≤ tt, (pins_to_lem (suc left)).0, [], inl (refl, refl), refl))
 
 -- one behind whose number it goes on with neither piece
@@ -77,7 +76,7 @@ pin_stops rest (suc left) n m l leads nowhere =
     (piece_stops nowhere (follows left)))
 
 -- one that goes on with another pin
-pub pin_on : (rest : List ℕ) (left : ℕ) (n : Number) (length_is m : ℕ) → 1 < left → Leads rest n → Chosen 3 (pins_to left) 0 (drop n.length rest) (Took 4 length_is)
+pub pin_on : (rest : List ℕ) (left : ℕ) (n : Number) (length_is m : ℕ) → 1 < left → Leads rest n → Chosen 3 (pins_to left) 0 (drop n.length rest) (Ok (record { which = 4; length = length_is }))
     → Stops (Pins (left - 1)) (drop (n.length + length_is) rest) m → Stops (Pins left) rest (n.length + length_is + m)
 pin_on rest zero n l m two leads chosen stops = absurd (omega arith)
 pin_on rest (suc left) n l m two leads (low, high, long, inside, is) stops =
@@ -90,7 +89,7 @@ pin_on rest (suc left) n l m two leads (low, high, long, inside, is) stops =
     (piece-behind 0 4 low high (omega arith) is inner))
 
 -- the number and the piece that a text begins with, together
-pub pin_is : (rest : List ℕ) (n : Number) (to which l : ℕ) → Leads rest n → Chosen 3 to 0 (drop n.length rest) (Took which l)
+pub pin_is : (rest : List ℕ) (n : Number) (to which l : ℕ) → Leads rest n → Chosen 3 to 0 (drop n.length rest) (Ok (record { which = which; length = l }))
     → (n.length + l ≤ length rest) × (rest ≡ decimal n.value ++ piece which 0 ++ drop (n.length + l) rest)
 pin_is rest n to which l leads (low, high, long, inside, is) =
     let room = leads.inside in
@@ -101,8 +100,8 @@ pin_is rest n to which l leads (low, high, long, inside, is) =
     )
 
 -- one pin, and one before others
-pub pins_one : (rest : List ℕ) (left p n : ℕ) (pins : Four) → 0 < left → p ≤ last_number → n ≤ length rest → rest ≡ decimal p ++ piece 3 0 ++ drop n rest
-    → four pins ≡ p ∷ 0 ∷ 0 ∷ 0 ∷ [] → HasPins rest left (p ∷ []) pins 1 n
+pub pins_one : (rest : List ℕ) (left p n : ℕ) (pins : List ℕ) → 0 < left → p ≤ last_number → n ≤ length rest → rest ≡ decimal p ++ piece 3 0 ++ drop n rest
+    → pins ≡ p ∷ 0 ∷ 0 ∷ 0 ∷ [] → HasPins rest left (p ∷ []) pins 1 n
 pins_one rest left p n pins l few inside is holds =
     record {
       some_pin = lit≤ tt;
@@ -114,8 +113,8 @@ pins_one rest left p n pins l few inside is holds =
       is = is;
     }
 
-pub pins_more : (rest : List ℕ) (left p n : ℕ) (qs : List ℕ) (pins new : Four) (count more : ℕ) → GoesOn rest left p n → HasPins (drop n rest) (left - 1) qs pins count more
-    → four new ≡ p ∷ take 3 (four pins) → HasPins rest left (p ∷ qs) new (count + 1) (n + more)
+pub pins_more : (rest : List ℕ) (left p n : ℕ) (qs pins new : List ℕ) (count more : ℕ) → GoesOn rest left p n → HasPins (drop n rest) (left - 1) qs pins count more
+    → new ≡ p ∷ take 3 pins → HasPins rest left (p ∷ qs) new (count + 1) (n + more)
 pins_more rest left p n [] pins new count more goes has holds = let some_pin = has.some_pin in absurd (omega arith)
 pins_more rest left p n (q ∷ qs) pins new count more goes has holds =
     let few = has.few in

@@ -1,48 +1,46 @@
 -- Reading byte by byte: how far a word goes along with a text, and a number digit by digit.
-use mathlib.Core.Path.{◌≡◌, sym, ap, ◌∙◌}
+use mathlib.Core.Path.{◌≡◌, refl, sym, ap, ◌∙◌}
 use mathlib.Core.Logic.{⊎_elim, ◌⊎◌, inl, inr}
-use mathlib.Core.List.{List, ◌∷◌, ◌++◌}
+use mathlib.Core.Bool.{true, false}
+use mathlib.Core.List.{List, [], ◌∷◌, ◌++◌}
 use Prim.Native.Nat.{ℕ, suc, ◌+◌, ◌*◌, ◌-◌, ◌≤◌, ◌<◌}
 use native.Mathlib.Nat.{add-zero}
 use native.Mathlib.Numerals.{add-one}
 use native.Mathlib.Omega.{arith}
-use lib.Dec.{ltb}
+use lib.Dec.{ltb, eqb}
 use lib.ListN.{length, get_or, take, drop, take-append-drop, drop_of_length-le}
-use lib.Seq.{take-suc, take_all, length-take-le, get_or-take, get_or-drop}
-use borrow.Author.Tests.{ltb-true, ltb-false}
+use lib.Seq.{take-suc, length-take-le, get_or-drop}
+use borrow.Author.Tests.{ltb-true, ltb-false, eqb-true, eqb-false}
+use Rattle.std.specs.List.{prefix_len, zip}
 use Rattle.board.proofs.Lists.{way}
 use Rattle.text.specs.Text.{decimal}
 use Rattle.drawing.specs.Form.{last_number}
-use Rattle.drawing.specs.Inner.{Common, Digit, Counted}
+use Rattle.drawing.specs.Inner.{Common, Digit, Leads}
 use Rattle.drawing.proofs.Laws.Decimal.{decimal-one, decimal_more}
 
--- a word and a text that have the same first i bytes
-module _ (rest word : List ℕ) (i : ℕ) (inside : i ≤ length rest) (same : take i word ≡ take i rest) where
-  pub common_more : i < length word → i < length rest → get_or rest i 0 ≡ get_or word i 0 → take (i + 1) word ≡ take (i + 1) rest
-  common_more a b e = rw (add-one, take-suc word i 0 a, take-suc rest i 0 b, same, e)
+-- a word and a text go along as long as each pair of bytes is the same
+pub common_is : (rest word : List ℕ) → Common rest word (prefix_len (λ (p : ℕ × ℕ). eqb p.0 p.1) (zip rest word))
+common_is [] word = record { inside = omega arith; part = omega arith; same = refl; most = λ l e. let n = ap length e in omega (arith, length-take-le 1 word l) }
+common_is (r ∷ rest) [] = record { inside = omega arith; part = omega arith; same = refl; most = λ l e. absurd (omega arith) }
+common_is (r ∷ rest) (w ∷ word) =
+    ⊎_elim
+    (λ (e : eqb r w ≡ true). rw e (more (eqb-true r w e) (common_is rest word)))
+    (λ (e : eqb r w ≡ false). rw e (none_more (eqb-false r w e)))
+    (way (eqb r w))
+  where
+    more : {m : ℕ} → r ≡ w → Common rest word m → Common (r ∷ rest) (w ∷ word) (1 + m)
+    more {m} e common =
+        let one : 1 + m ≡ suc m = omega arith in
+        rw one
+        (record {
+          inside = let inside = common.inside in omega arith;
+          part = let part = common.part in omega arith;
+          same = let same = common.same in cc;
+          most = λ l share. common.most (omega arith) (cc);
+        })
 
-  pub common_over : i < length word → length rest ≤ i → Common rest word i
-  common_over a b =
-      record {
-        inside = inside;
-        part = omega arith;
-        same = same;
-        most = λ l e. let n = ap length e in omega (arith, length-take-le (suc i) word a, ap length (take_all (suc i) rest (omega arith)));
-      }
-
-  pub common_differs : i < length word → i < length rest → (get_or rest i 0 ≡ get_or word i 0 → ⊥) → Common rest word i
-  common_differs a b other =
-      record {
-        inside = inside;
-        part = omega arith;
-        same = same;
-        most = λ l e.
-            other
-            (sym (get_or-take (suc i) rest i 0 (omega arith)) ∙ sym (ap (λ (z : List ℕ). get_or z i 0) e) ∙ get_or-take (suc i) word i 0 (omega arith));
-      }
-
-  pub common_whole : i ≡ length word → Common rest word i
-  common_whole e = record { inside = inside; part = omega arith; same = same; most = λ l share. absurd (omega arith) }
+    none_more : (r ≡ w → ⊥) → Common (r ∷ rest) (w ∷ word) 0
+    none_more other = record { inside = omega arith; part = omega arith; same = refl; most = λ l share. other (cc) }
 
 -- the first i bytes of a text are no digit yet, or a number's
 pub record Sofar (rest : List ℕ) (v i : ℕ) : Type 0 where
@@ -72,21 +70,16 @@ module _ (rest : List ℕ) (v i : ℕ) (before : Sofar rest v i) where
       not_nought : (v : ℕ) → (v ≡ 0 → ⊥) → 0 < v
       not_nought v no_zero = omega arith
 
-  pub counted : i ≤ length rest → ((c : ℕ) (x : List ℕ) → drop i rest ≡ c ∷ x → Digit c → ((0 < i) × (v ≡ 0)) ⊎ (last_number < 10 * v + (c - 48)))
-      → Counted rest (record { value = v; length = i })
-  counted room stops = (
-    λ c x none is digit.
-        let v0 = before.none_yet none in
-        ⊎_elim (λ (over, nought). omega arith) (λ over. let top = digit.high in omega arith) (stops c x (rw none is) digit),
-    λ over.
-        record {
-          few = before.few;
-          long = sym (length-take-le i rest room) ∙ ap length (before.is over);
-          inside = room;
-          is = sym (take-append-drop i rest) ∙ ap (λ (z : List ℕ). z ++ drop i rest) (before.is over);
-          ends = λ c x e digit. ⊎_elim (λ (later, nought). inl nought) (λ over. inr over) (stops c x e digit);
-        },
-  )
+  pub counted : i ≤ length rest → 0 < i → ((c : ℕ) (x : List ℕ) → drop i rest ≡ c ∷ x → Digit c → ((0 < i) × (v ≡ 0)) ⊎ (last_number < 10 * v + (c - 48)))
+      → Leads rest (record { value = v; length = i })
+  counted room over stops =
+      record {
+        few = before.few;
+        long = sym (length-take-le i rest room) ∙ ap length (before.is over);
+        inside = room;
+        is = sym (take-append-drop i rest) ∙ ap (λ (z : List ℕ). z ++ drop i rest) (before.is over);
+        ends = λ c x e digit. ⊎_elim (λ (later, nought). inl nought) (λ over. inr over) (stops c x e digit);
+      }
 
 -- the byte that the rest of a text begins with
 pub head_at : (rest : List ℕ) (i c : ℕ) (x : List ℕ) → drop i rest ≡ c ∷ x → get_or rest i 0 ≡ c

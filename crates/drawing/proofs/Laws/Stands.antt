@@ -13,7 +13,7 @@ use Rattle.drawing.specs.Form.{lines_text, text_of, Drawn, OfForm, Departs}
 use Rattle.drawing.specs.Inner.{Stops, ToldBy, tallied, Statement, input, output, gate, section, Sound, an_input, an_output, a_gate, statement_text, Statements, Begins, add, Sofar}
 use Rattle.drawing.specs.declared.form.Tally.{Tally}
 use Rattle.drawing.specs.declared.line.Line.{Line}
-use Rattle.drawing.specs.declared.line.Line.TheVariants.{Input, Output, Gate, LineStop}
+use Rattle.drawing.specs.declared.line.Line.TheVariants.{Input, Output, Gate}
 use Rattle.drawing.proofs.Laws.Stops.{share_less}
 use Rattle.drawing.proofs.Laws.Lines.{long_is}
 use Rattle.drawing.proofs.Laws.Sofar.{input_more, output_more, gate_more}
@@ -150,4 +150,3 @@ module _ (t : List ℕ) (b : Board) (c : Tally) (at : ℕ) (stands : Stands t b 
   told_more (Output o m) told = stands_more (tallied c (Output o m)) (rw told refl) (rw told stands.lines_are) (rw (told, length-append) (omega (arith, stands.outs_are)))
   told_more (Gate kind count pins m) (ps, told, counts, holds) =
       stands_more (tallied c (Gate kind count pins m)) (rw told refl) (rw (told, length-append) (omega (arith, stands.lines_are))) (rw told stands.outs_are)
-  told_more (LineStop m) told = absurd told

@@ -7,13 +7,13 @@ use native.Mathlib.Omega.{arith}
 use lib.Dec.{lit≤, lit<, ltb}
 use lib.ListN.{length, get_or, drop}
 use borrow.Author.Tests.{lt-ltb, ltb-true, ltb-false}
+use Rattle.std.specs.Prelude.{Ok}
 use Rattle.board.specs.Lists.{◌among◌}
 use Rattle.board.specs.Board.{Record}
 use Rattle.board.proofs.Lists.{way}
 use Rattle.text.specs.Text.{decimal, each}
 use Rattle.drawing.specs.Form.{output_text, gate_text, last_number, Worded}
 use Rattle.drawing.specs.Inner.{piece_forms, piece_count, piece, Stops, NoPiece, Chosen, PieceThen, pins_to, Pins, pins_rest, tie_piece, WordThen, GateRest, input, output, gate, an_input, an_output, a_gate, Statements}
-use Rattle.drawing.specs.declared.choose.Choice.TheVariants.{Took}
 use Rattle.drawing.proofs.Laws.WriteGate.{next_pin, word_piece, input_text_lem, output_text_lem, gate-text, tie_text}
 use Rattle.drawing.proofs.Laws.Stops.{stops_same, piece_stops, piece-behind}
 use Rattle.drawing.proofs.Laws.Pins.{pins_to_lem, pins_some}
@@ -210,7 +210,7 @@ module _ (from k : ℕ) (rest : List ℕ) (n m : ℕ) where
 pub word_stops : {rest : List ℕ} {m : ℕ} → NoPiece 5 piece_count 0 rest m → Stops GateRest rest m
 word_stops nowhere = piece_stops nowhere (λ which low high. word_some which)
 
-pub word_behind : {rest : List ℕ} {m : ℕ} (which n : ℕ) → which < tie_piece → Chosen 5 piece_count 0 rest (Took which n) → Stops (Pins 4) (drop n rest) m
+pub word_behind : {rest : List ℕ} {m : ℕ} (which n : ℕ) → which < tie_piece → Chosen 5 piece_count 0 rest (Ok (record { which = which; length = n })) → Stops (Pins 4) (drop n rest) m
     → Stops GateRest rest (n + m)
 word_behind {rest} {m} which n no_tie (low, high, long, inside, is) stops =
     let pins : Stops (WordThen which) (drop n rest) m =

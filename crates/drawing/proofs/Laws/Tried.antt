@@ -9,10 +9,10 @@ use lib.Dec.{eqb}
 use lib.ListN.{length, take, drop, take-append-drop}
 use lib.Seq.{take-append-le, take-length, length-take-le}
 use borrow.Author.Tests.{eqb-true, eqb-false}
+use Rattle.std.specs.Prelude.{Ok}
 use Rattle.board.proofs.Lists.{way}
 use Rattle.text.specs.Text.{Written}
 use Rattle.drawing.specs.Inner.{piece, NoPiece, Common, Chosen}
-use Rattle.drawing.specs.declared.choose.Choice.TheVariants.{Took}
 use Rattle.drawing.proofs.Laws.Stops.{share_less}
 
 -- the pieces from a number up to `which` have been tried
@@ -55,7 +55,7 @@ module _ (rest out : List ℕ) (which k n m : ℕ) (written : Written n out (pie
   pub long_is : n ≡ length (piece which k)
   long_is = sym (length-take-le n out written.room) ∙ ap length written.is
 
-  pub took : (from to : ℕ) → from ≤ which → which < to → m ≡ n → Chosen from to k rest (Took which n)
+  pub took : (from to : ℕ) → from ≤ which → which < to → m ≡ n → Chosen from to k rest (Ok (record { which = which; length = n }))
   took from to a b e =
       let same = of_piece.same in
       let all : take n (piece which k) ≡ piece which k = ap (λ (j : ℕ). take j (piece which k)) long_is ∙ take-length (piece which k) in

@@ -11,7 +11,7 @@ pub returns-then-is_outside : goal.returns-then-is_outside
 returns-then-is_outside c =
     let a = c.args in
     λ b holds.
-    counts_refused b a.lines a.outs a.records.now a.outputs.now a.target.now holds (rw (c.is_outside.ensures, c.is_outside-2.ensures) at c.if-is_outside.true)
+    counts_refused b a.named.lines a.named.outputs a.stored.now.records a.stored.now.outputs a.target.now holds (rw (c.is_outside.ensures, c.is_outside-2.ensures) at c.if-is_outside.true)
 
 few : (limit n : ℕ) → outside limit n ≡ false → n ≤ limit
 few limit n e = ltb-false limit n (or_false (eqb n 0) (ltb limit n) e).1
@@ -19,8 +19,8 @@ few limit n e = ltb-false limit n (or_false (eqb n 0) (ltb limit n) e).1
 pub returns : goal.returns
 returns c =
     let a = c.args in
-    let within : (outside most_lines a.lines || outside most_outputs a.outs) ≡ false = rw (c.is_outside.ensures, c.is_outside-2.ensures) at c.if-is_outside.false in
-    let (lines, outs) = or_false (outside most_lines a.lines) (outside most_outputs a.outs) within in
+    let within : (outside most_lines a.named.lines || outside most_outputs a.named.outputs) ≡ false = rw (c.is_outside.ensures, c.is_outside-2.ensures) at c.if-is_outside.false in
+    let (lines, outs) = or_false (outside most_lines a.named.lines) (outside most_outputs a.named.outputs) within in
     λ b holds.
-    let image = c.finish-n.ensures.1 ∙ image_kept b a.lines a.outs a.records.now a.outputs.now a.target.now holds (few most_lines a.lines lines) (few most_outputs a.outs outs) in
-    image_owed b a.lines a.outs a.records.now a.outputs.now a.target.now holds within _ _ (rw image at c.put_image.ensures)
+    let image = c.finish.ensures ∙ image_kept b a.named.lines a.named.outputs a.stored.now.records a.stored.now.outputs a.target.now holds (few most_lines a.named.lines lines) (few most_outputs a.named.outputs outs) in
+    image_owed b a.named.lines a.named.outputs a.stored.now.records a.stored.now.outputs a.target.now holds within _ _ (rw image at c.put_image.ensures)

@@ -127,13 +127,6 @@ pub absent-same : (b : Board) (φ : Condition) → absent b φ ≡ true → (m n
 absent-same b φ gone m n l = same-below (shows b φ) m n l (λ q i k. absent_hidden b φ gone q)
 
 -- entries of lines that are done or still to do, from patterns to patterns
-pub onward_start : (t : ℕ → Bool) (m o e : ℕ) → Onward t m m o e o e
-onward_start t m o e = record { done = λ s. (refl, s); going = λ a c is. is; ended = λ a c p l is. clash (on o) a c }
-
--- an entry of a line that is done
-pub onward_off : (t : ℕ → Bool) (m n o e : ℕ) → on o ≡ false → Onward t m n o e o e
-onward_off t m n o e off = record { done = λ s. (refl, s); going = λ a c is. clash (on o) a off; ended = λ a c p l is. clash (on o) a off }
-
 pub onward_on : {t : ℕ → Bool} {l m n o e o' e' o'' e'' : ℕ} → m ≤ n → Onward t l m o e o' e' → Onward t m n o' e' o'' e'' → Onward t l n o e o'' e''
 onward_on {o' = o'} le h k =
     record {

@@ -2,15 +2,16 @@
 use mathlib.Core.Path.{◌≡◌, refl, sym, ap, ◌∙◌}
 use mathlib.Core.Logic.{⊎_elim}
 use mathlib.Core.Option.{none, some}
-use mathlib.Core.List.{List, [], ◌∷◌, ◌++◌}
-use mathlib.Core.Bool.{true, false, not, ◌||◌}
+use mathlib.Core.List.{List, [], ◌∷◌}
+use mathlib.Core.Bool.{Bool, true, false, not, cond, ◌||◌}
+use Rattle.std.specs.List.{count_by}
+use Rattle.std.proofs.lemmas.List.Recursion.{is_count_by}
 use Prim.Native.Nat.{ℕ, zero, suc, ◌+◌, ◌*◌, ◌/◌, ◌%◌, ◌^◌, ◌≤◌, ◌<◌}
 use native.Mathlib.Nat.{le_refl, le_trans, le_of_eq, zero-add, add-zero}
-use native.Mathlib.Numerals.{add-one}
 use native.Mathlib.Omega.{arith}
 use lib.Dec.{eqb}
-use lib.ListN.{length, get_or, take}
-use lib.Seq.{take-suc, ext_get_or}
+use lib.ListN.{length, get_or}
+use lib.Seq.{ext_get_or}
 use borrow.Author.Tests.{eqb-true, eqb-false, eq-eqb, ne_eqb, le-leb}
 use Rattle.board.specs.Lists.{somewhere, bit, on}
 use Rattle.board.specs.Limits.{most_lines, none_mark}
@@ -20,7 +21,7 @@ use Rattle.board.specs.Fine.{Fine}
 use Rattle.board.specs.Test.{find}
 use Rattle.board.specs.Book.{entries_a_line, fault_at, entry, answer_in, found}
 use Rattle.board.specs.declared.Condition.{Condition}
-use Rattle.board.specs.declared.Fault.TheVariants.{Line, Pin}
+use Rattle.board.specs.declared.Fault.TheVariants.{Pin}
 use Rattle.board.specs.declared.Condition.TheVariants.{Having}
 use Rattle.board.specs.declared.Sort.{Sort}
 use Rattle.board.specs.declared.Sort.TheVariants.{Lines, Pins}
@@ -32,17 +33,16 @@ use Rattle.image.specs.Refusals.{Accepted}
 use Rattle.image.specs.Inner.{OnBoard}
 use Rattle.image.proofs.Laws.Fine.{four_used, lines_few}
 use Rattle.image.proofs.Laws.Records.{bit_below}
-use Rattle.find.specs.Inner.{reworked_entry, reworked, Cleared, Renewed, Part, Searched}
+use Rattle.find.specs.Inner.{start_at, reworked_entry, reworked, Cleared, Renewed, Part, Searched}
 use Rattle.find.specs.Book.{book_of}
 
-found_end : (es : List ℕ) (e : ℕ) → found (es ++ (e ∷ [])) ≡ found es + bit (not (eqb e none_mark))
-found_end [] e = omega arith
-found_end (x ∷ es) e = omega (arith, found_end es e)
-
--- one entry more
-pub found_more : (book : List ℕ) (k count : ℕ) → k < length book → count ≡ found (take k book)
-    → count + bit (not (eqb (get_or book k 0) none_mark)) ≡ found (take (k + 1) book)
-found_more book k count l h = rw (add-one, take-suc book k 0 l, found_end, h)
+-- the entries that are not none, as they are counted
+pub found_counted : (book : List ℕ) → found book ≡ count_by (λ e. not (eqb e none_mark)) book
+found_counted = is_count_by found (λ e. not (eqb e none_mark)) refl (λ e es. counted (eqb e none_mark) (found es))
+  where
+    counted : (t : Bool) (n : ℕ) → bit (not t) + n ≡ cond (not t) (1 + n) n
+    counted true n = zero-add n
+    counted false n = refl
 
 -- n numbers are not so many a line: some are left over, or there are not as many shares as lines
 not_so_many : (each n lines : ℕ) → (n ≡ each * lines → (n % each ≡ 0) × (n / each ≡ lines)) → (n % each ≡ 0 → n / each ≡ lines → n ≡ each * lines)
@@ -105,20 +105,6 @@ renewed_few sort {s} {marks} {old} left =
     let few = found_few (reworked sort (board_of s) marks old) in
     rw left.count (le_trans few (le_of_eq (build-length (λ k done. reworked_entry sort (board_of s) marks old k) (length old))))
 
--- the numbers of faults in their books
-pub line_number : (l s : ℕ) → s < 2 → fault_at Lines (2 * l + s) ≡ Having (Line l s)
-line_number l s h =
-    let line : (2 * l + s) / 2 ≡ l = omega arith in
-    let value : (2 * l + s) % 2 ≡ s = omega arith in
-    rw (line, value)
-
-pub pin_number : (l p s : ℕ) → p < 4 → s < 2 → fault_at Pins (8 * l + 2 * p + s) ≡ Having (Pin l p s)
-pin_number l p s few h =
-    let line : (8 * l + 2 * p + s) / 8 ≡ l = omega arith in
-    let pin : (8 * l + 2 * p + s) % 8 / 2 ≡ p = omega arith in
-    let value : (8 * l + 2 * p + s) % 2 ≡ s = omega arith in
-    rw (line, pin, value)
-
 -- no gate has a fifth pin
 pub fifth_absent : (b : Board) → Fine b → (l p s : ℕ) → l < length b.lines → 4 ≤ p → find b (Having (Pin l p s)) ≡ none
 fifth_absent b fine l p s inside past =
@@ -133,7 +119,7 @@ module _ (b : Board) (fine : Fine b) (φ : Condition) (e : ℕ) (is : e ≡ entr
   one_found other = rw (ne_eqb e none_mark other) at (ap answer_in is ∙ entry_stands b fine φ)
 
 -- a part of one entry
-pub one-part : (sort : Sort) (s : List ℕ) (k : ℕ) → Accepted s → OnBoard s (fault_at sort k) → Part sort k s 1
+pub one-part : (sort : Sort) (s : List ℕ) (k : ℕ) → Accepted s → OnBoard s (fault_at sort k) → Part (start_at sort k) s 1
 one-part sort s k ok fault =
     record { short = small sort fault; faults = λ i l. let none : i ≡ 0 = omega arith in rw (none, add-zero) fault }
   where
@@ -142,7 +128,7 @@ one-part sort s k ok fault =
     small Pins h = omega (arith, h.inside, lines_few s ok)
 
 -- a search for one entry, and for the marked entries of a book
-pub searched_one : (sort : Sort) (b : Board) (k : ℕ) (todo part after : List ℕ) → Searched sort k b (2 ^ inputs b) todo part after → 0 < length part
+pub searched_one : (sort : Sort) (b : Board) (k : ℕ) (todo part after : List ℕ) → Searched (start_at sort k) b (2 ^ inputs b) todo part after → 0 < length part
     → get_or part 0 0 ≡ none_mark → on (get_or todo (site (fault_at sort k)) 0) ≡ true → get_or after 0 0 ≡ entry (find b (fault_at sort k))
 unfolding find
 searched_one sort b k todo part after done some-entry blank marked =
@@ -153,11 +139,11 @@ few_entries sort s zero ok faults = omega arith
 few_entries Lines s (suc n) ok faults = omega (arith, (faults n (le_refl (suc n))).inside, lines_few s ok)
 few_entries Pins s (suc n) ok faults = omega (arith, (faults n (le_refl (suc n))).inside, lines_few s ok)
 
-pub whole_part : (sort : Sort) (s : List ℕ) (n : ℕ) → Accepted s → ((k : ℕ) → k < n → OnBoard s (fault_at sort k)) → Part sort 0 s n
+pub whole_part : (sort : Sort) (s : List ℕ) (n : ℕ) → Accepted s → ((k : ℕ) → k < n → OnBoard s (fault_at sort k)) → Part (start_at sort 0) s n
 whole_part sort s n ok faults = record { short = omega (arith, few_entries sort s n ok faults); faults = λ k l. rw zero-add (faults k l) }
 
 pub searched_renewed : (sort : Sort) (s marks old blank after : List ℕ) → Accepted s → ((k : ℕ) → k < length old → OnBoard s (fault_at sort k))
-    → Cleared sort marks old blank → Searched sort 0 (board_of s) (2 ^ inputs (board_of s)) marks blank after → after ≡ reworked sort (board_of s) marks old
+    → Cleared sort marks old blank → Searched (start_at sort 0) (board_of s) (2 ^ inputs (board_of s)) marks blank after → after ≡ reworked sort (board_of s) marks old
 unfolding reworked_entry find
 searched_renewed sort s marks old blank after ok faults cleared done =
     let new : ℕ → List ℕ → ℕ = λ k before. reworked_entry sort (board_of s) marks old k in

@@ -1,5 +1,5 @@
 -- A part of a book, entry by entry: what a loop has stored so far, where a line's entries end, and a line's entries put back into their part.
-use mathlib.Core.Path.{◌≡◌, refl, sym, ap, ◌∙◌}
+use mathlib.Core.Path.{◌≡◌, sym, ap, ◌∙◌}
 use mathlib.Core.Logic.{⊎_elim}
 use mathlib.Core.List.{List, ◌++◌}
 use mathlib.Core.Bool.{Bool, true, false, ◌||◌}
@@ -14,59 +14,37 @@ use Rattle.board.specs.Lists.{bit, on}
 use Rattle.board.specs.Board.{Board}
 use Rattle.board.specs.Book.{entries_a_line}
 use Rattle.board.specs.declared.Sort.{Sort}
-use Rattle.board.specs.declared.Sort.TheVariants.{Lines, Pins}
 use Rattle.board.proofs.Lists.{way, or_false}
 use Rattle.board.proofs.Reach.{on_bit}
 use Rattle.lanes.specs.Inner.{Block}
-use Rattle.find.specs.Inner.{Onward, test_of, line_of, Part, LineEnd, Gone, Tried, TriedLine, Spacious, Searched}
-use Rattle.find.proofs.Laws.Blocks.{onward_start, onward_off, onward_on, onward_end, onward_done}
+use Rattle.find.specs.declared.blocks.Start.{Start}
+use Rattle.find.specs.Inner.{later, Onward, test_of, line_of, Part, LineEnd, Gone, Tried, TriedLine, Searched}
+use Rattle.find.proofs.Laws.Blocks.{onward_on, onward_end, onward_done}
 
 -- a line ends where the next one begins, or with the part
 abbrev pub next_line : Sort → ℕ → ℕ
 next_line sort k = entries_a_line sort * (k / entries_a_line sort + 1)
 
-pub next_fits : (sort : Sort) (first k : ℕ) → first ≤ next_line sort (first + k)
-next_fits Lines first k = omega arith
-next_fits Pins first k = omega arith
-
-pub ends : (sort : Sort) (first k n : ℕ) → next_line sort (first + k) - first < n → LineEnd sort first k n (next_line sort (first + k) - first)
-ends Lines first k n m = record { more = omega arith; within = omega arith; same = λ j a z. omega arith; above = λ j a z. omega arith }
-ends Pins first k n m = record { more = omega arith; within = omega arith; same = λ j a z. omega arith; above = λ j a z. omega arith }
-
-pub ends_last : (sort : Sort) (first k n : ℕ) → k < n → n ≤ next_line sort (first + k) - first → LineEnd sort first k n n
-ends_last Lines first k n l m = record { more = l; within = omega arith; same = λ j a z. omega arith; above = λ j a z. absurd (omega arith) }
-ends_last Pins first k n l m = record { more = l; within = omega arith; same = λ j a z. omega arith; above = λ j a z. absurd (omega arith) }
-
 -- the entries of one line are a part themselves
-module _ (sort : Sort) (first k n e : ℕ) (ends : LineEnd sort first k n e) where
-  number : (i : ℕ) → first + k + i ≡ first + (k + i)
+module _ (at : Start) (k n e : ℕ) (ends : LineEnd at k n e) where
+  number : (i : ℕ) → at.first + k + i ≡ at.first + (k + i)
   number i = omega arith
 
-  pub line_part : (s : List ℕ) → Part sort first s n → Part sort (first + k) s (e - k)
+  pub line_part : (s : List ℕ) → Part at s n → Part (later at k) s (e - k)
   line_part s part =
       record {
         short = omega (arith, part.short, ends.within);
         faults = λ i l. rw (number i) (part.faults (k + i) (omega (arith, ends.within)));
       }
 
-  pub part_line : (i : ℕ) → i < e - k → line_of sort (first + k) i ≡ line_of sort first k
+  pub part_line : (i : ℕ) → i < e - k → line_of (later at k) i ≡ line_of at k
   part_line i l = rw (number i) (ends.same (k + i) (omega arith) (omega arith))
 
--- the entries of a line: it was done, or it was tried
-module _ (sort : Sort) (first : ℕ) (b : Board) (m n line : ℕ) (todo part : List ℕ) (of_line : (k : ℕ) → k < length part → line_of sort first k ≡ line) where
-  pub line_done : (rows : List ℕ) → get_or todo line 0 ≡ 0 → Block b m rows → TriedLine sort first b m n line todo part false rows todo part
-  line_done rows off block =
-      let shut : on (get_or todo line 0) ≡ false = rw off in
-      record {
-        tried = record { long = refl; wide = refl; each = λ j l. onward_off (test_of sort first b j) m n _ _ (rw (of_line j l) shut) };
-        block = block;
-        answer = shut;
-        others = λ l ne. refl;
-      }
-
-  pub line_tried : (rows part' : List ℕ) (r : Bool) → line < length todo → (get_or todo line 0 ≡ 0 → ⊥) → Gone sort first b m n part part'
-      → (r ≡ false → (m n : ℕ) → m ≤ n → Gone sort first b m n part' part') → Block b m rows
-      → TriedLine sort first b m n line todo part r rows (set todo line (bit r)) part'
+-- the entries of a line that was tried
+module _ (at : Start) (b : Board) (m n line : ℕ) (todo part : List ℕ) (of_line : (k : ℕ) → k < length part → line_of at k ≡ line) where
+  pub line_tried : (rows part' : List ℕ) (r : Bool) → line < length todo → (get_or todo line 0 ≡ 0 → ⊥) → Gone at b m n part part'
+      → (r ≡ false → (m n : ℕ) → m ≤ n → Gone at b m n part' part') → Block b m rows
+      → TriedLine at b m n line todo part r rows (set todo line (bit r)) part'
   line_tried rows part' r inside ne gone stays block =
       let here : on (get_or (set todo line (bit r)) line 0) ≡ r = rw (get_or-set_same todo line (bit r) 0 inside) (on_bit r) in
       record {
@@ -120,29 +98,18 @@ module _ (xs new : List ℕ) (k e : ℕ) (l : k ≤ e) (within : e ≤ length xs
       ∙ ap (λ (i : ℕ). get_or xs i 0) from
 
 -- the lines of a part's first k entries are tried, of which k is the next line's first, and the others are as before
-module _ (sort : Sort) (first : ℕ) (b : Board) (m n : ℕ) (todo part : List ℕ) where
+module _ (at : Start) (b : Board) (m n : ℕ) (todo part : List ℕ) where
   pub record Trying (any : Bool) (k : ℕ) (todo' part' : List ℕ) : Type 0 where
-    pub tried : Tried sort first b m n k todo part todo' part'
+    pub tried : Tried at b m n k todo part todo' part'
     pub within : k ≤ length part
     pub rest : (j : ℕ) → k ≤ j → get_or part' j 0 ≡ get_or part j 0
-    pub left : (j : ℕ) → k ≤ j → j < length part → get_or todo' (line_of sort first j) 0 ≡ get_or todo (line_of sort first j) 0
-    pub lower : (j : ℕ) → j < k → k < length part → line_of sort first j < line_of sort first k
-    pub answer : any ≡ false → (j : ℕ) → j < k → on (get_or todo' (line_of sort first j) 0) ≡ false
+    pub left : (j : ℕ) → k ≤ j → j < length part → get_or todo' (line_of at j) 0 ≡ get_or todo (line_of at j) 0
+    pub lower : (j : ℕ) → j < k → k < length part → line_of at j < line_of at k
+    pub answer : any ≡ false → (j : ℕ) → j < k → on (get_or todo' (line_of at j) 0) ≡ false
 
-  pub none_tried : Trying false 0 todo part
-  none_tried =
-      record {
-        tried = record { long = refl; wide = refl; each = λ j l. absurd (omega arith) };
-        within = omega arith;
-        rest = λ j l. refl;
-        left = λ j l i. refl;
-        lower = λ j l i. absurd (omega arith);
-        answer = λ e j l. absurd (omega arith);
-      }
-
-  module _ (any more : Bool) (k e : ℕ) (rows xs row new row' : List ℕ) (inside : k < length part) (ends : LineEnd sort first k (length part) e)
+  module _ (any more : Bool) (k e : ℕ) (rows xs row new row' : List ℕ) (inside : k < length part) (ends : LineEnd at k (length part) e)
       (so : Trying any k row xs)
-      (now : TriedLine sort (first + k) b m n (line_of sort first k) row (take (e - k) (drop k xs)) more rows row' new) where
+      (now : TriedLine (later at k) b m n (line_of at k) row (take (e - k) (drop k xs)) more rows row' new) where
     long_xs : length xs ≡ length part
     long_xs = so.tried.long
 
@@ -159,7 +126,7 @@ module _ (sort : Sort) (first : ℕ) (b : Board) (m n : ℕ) (todo part : List �
     long_new = now.tried.long ∙ long_sub
 
     -- a line before is another
-    apart : (j : ℕ) → j < k → line_of sort first j ≡ line_of sort first k → ⊥
+    apart : (j : ℕ) → j < k → line_of at j ≡ line_of at k → ⊥
     apart j l same = omega (arith, so.lower j l inside)
 
     sub_at : (j : ℕ) → k ≤ j → j < e → get_or (take (e - k) (drop k xs)) (j - k) 0 ≡ get_or part j 0
@@ -168,15 +135,15 @@ module _ (sort : Sort) (first : ℕ) (b : Board) (m n : ℕ) (todo part : List �
         get_or-take (e - k) (drop k xs) (j - k) 0 (omega arith) ∙ get_or-drop k xs (j - k) 0 ∙ ap (λ (q : ℕ). get_or xs q 0) at ∙ so.rest j l
 
     each_on : (j : ℕ) → j < e
-        → Onward (test_of sort first b j) m n (get_or todo (line_of sort first j) 0) (get_or part j 0) (get_or row' (line_of sort first j) 0) (get_or (put_back xs new k e) j 0)
+        → Onward (test_of at b j) m n (get_or todo (line_of at j) 0) (get_or part j 0) (get_or row' (line_of at j) 0) (get_or (put_back xs new k e) j 0)
     each_on j i =
         ⊎_elim
         (λ (q : ltb j k ≡ true).
         let l = ltb-true j k q in
-        rw (back_before xs new k e to_end end_within long_new j l, now.others (line_of sort first j) (apart j l)) (so.tried.each j l))
+        rw (back_before xs new k e to_end end_within long_new j l, now.others (line_of at j) (apart j l)) (so.tried.each j l))
         (λ (q : ltb j k ≡ false).
         let l = ltb-false j k q in
-        let number : first + k + (j - k) ≡ first + j = omega arith in
+        let number : at.first + k + (j - k) ≡ at.first + j = omega arith in
         rw (back_inside xs new k e to_end end_within long_new j l i, ← (so.left j l (omega (arith, ends.within))), ← (sub_at j l i))
         (rw number at (now.tried.each (j - k) (omega (arith, long_sub)))))
         (way (ltb j k))
@@ -187,7 +154,7 @@ module _ (sort : Sort) (first : ℕ) (b : Board) (m n : ℕ) (todo part : List �
           tried = record { long = back_long xs new k e to_end end_within long_new ∙ long_xs; wide = now.tried.wide ∙ so.tried.wide; each = each_on };
           within = ends.within;
           rest = λ j l. back_after xs new k e to_end end_within long_new j l ∙ so.rest j (omega (arith, to_end));
-          left = λ j l i. now.others (line_of sort first j) (λ same. omega (arith, ends.above j l i)) ∙ so.left j (omega (arith, to_end)) i;
+          left = λ j l i. now.others (line_of at j) (λ same. omega (arith, ends.above j l i)) ∙ so.left j (omega (arith, to_end)) i;
           lower = λ j l i.
               ⊎_elim
               (λ (q : ltb j k ≡ true). omega (arith, so.lower j (ltb-true j k q) inside, ends.above e (le_refl e) i))
@@ -196,19 +163,16 @@ module _ (sort : Sort) (first : ℕ) (b : Board) (m n : ℕ) (todo part : List �
           answer = λ none j l.
               let (before, here) = or_false any more none in
               ⊎_elim
-              (λ (q : ltb j k ≡ true). let i = ltb-true j k q in rw (now.others (line_of sort first j) (apart j i)) (so.answer before j i))
+              (λ (q : ltb j k ≡ true). let i = ltb-true j k q in rw (now.others (line_of at j) (apart j i)) (so.answer before j i))
               (λ (q : ltb j k ≡ false). rw (ends.same j (ltb-false j k q) l) (now.answer ∙ here))
               (way (ltb j k));
         }
 
--- a part before the first pattern, after one block more, and at the end: all patterns are tried, or no line is to do any more
-module _ (sort : Sort) (first : ℕ) (b : Board) (todo part : List ℕ) where
-  pub tried_start : Tried sort first b 0 0 (length part) todo part todo part
-  tried_start = record { long = refl; wide = refl; each = λ j l. onward_start (test_of sort first b j) 0 _ _ }
-
+-- a part after one block more, and at the end: all patterns are tried, or no line is to do any more
+module _ (at : Start) (b : Board) (todo part : List ℕ) where
   module _ (m n : ℕ) (todo' part' : List ℕ) where
-    pub tried_on : (row xs : List ℕ) → m ≤ n → Tried sort first b 0 m (length part) todo part row xs → Tried sort first b m n (length xs) row xs todo' part'
-        → Tried sort first b 0 n (length part) todo part todo' part'
+    pub tried_on : (row xs : List ℕ) → m ≤ n → Tried at b 0 m (length part) todo part row xs → Tried at b m n (length xs) row xs todo' part'
+        → Tried at b 0 n (length part) todo part todo' part'
     tried_on row xs l h k =
         record {
           long = k.long ∙ h.long;
@@ -216,22 +180,11 @@ module _ (sort : Sort) (first : ℕ) (b : Board) (todo part : List ℕ) where
           each = λ j i. onward_on l (h.each j i) (k.each j (omega (arith, h.long)));
         }
 
-    pub all_searched : Tried sort first b 0 n (length part) todo part todo' part' → Searched sort first b n todo part part'
+    pub all_searched : Tried at b 0 n (length part) todo part todo' part' → Searched at b n todo part part'
     all_searched h =
         record { long = h.long; worked = λ k l a is. onward_end (h.each k l) a is; kept = λ k l off. ((h.each k l).done off).0 }
 
-    pub none_left : Tried sort first b 0 m (length part) todo part todo' part' → m ≤ n
-        → ((k : ℕ) → k < length part → on (get_or todo' (line_of sort first k) 0) ≡ false) → Searched sort first b n todo part part'
+    pub none_left : Tried at b 0 m (length part) todo part todo' part' → m ≤ n
+        → ((k : ℕ) → k < length part → on (get_or todo' (line_of at k) 0) ≡ false) → Searched at b n todo part part'
     none_left h l off =
         record { long = h.long; worked = λ k i a is. onward_done (h.each k i) (off k i) l a is; kept = λ k i shut. ((h.each k i).done shut).0 }
-
--- it is the same by a row in which the lines of the part are marked alike
-pub searched_as : (sort : Sort) (first : ℕ) (b : Board) (limit : ℕ) (todo marks part part' : List ℕ)
-    → ((k : ℕ) → k < length part → on (get_or todo (line_of sort first k) 0) ≡ on (get_or marks (line_of sort first k) 0))
-    → Searched sort first b limit todo part part' → Searched sort first b limit marks part part'
-searched_as sort first b limit todo marks part part' same h =
-    record { long = h.long; worked = λ k l a is. h.worked k l (same k l ∙ a) is; kept = λ k l off. h.kept k l (same k l ∙ off) }
-
--- rows that are long enough for so many lines are long enough for fewer
-pub spacious : (lines most : ℕ) → lines ≤ most → Spacious lines (16 * most + 16) most
-spacious lines most l = record { rows_long = omega arith; todo_long = l }

@@ -8,6 +8,7 @@ use native.Mathlib.Nat.{mod-lt, lt_trans}
 use lib.Dec.{eqb, ltb, lit<}
 use lib.ListN.{get_or-eq_default}
 use borrow.Author.Tests.{ltb-true, ltb-false}
+use Rattle.std.specs.Prelude.{Option, Some, None}
 use Rattle.board.specs.Lists.{somewhere}
 use Rattle.board.specs.Board.{Board, record_of}
 use Rattle.board.specs.Row.{step, row}
@@ -31,8 +32,9 @@ pair-below g h = get_or_below 5 (0 ∷ 4 ∷ 3 ∷ 1 ∷ []) tt (2 * g + h) 2 (l
 hold_below : (s v : ℕ) → hold5 s v < 5
 hold_below s v = cond_below (eqb v 2) (lit< tt) (pair-below (good_half v) s)
 
-pub held_below : (s v : ℕ) → v < 5 → held_at hold5 s v < 5
-held_below s v l = cond_below (ltb s 2) (hold_below s v) l
+pub held_below : (o : Option ℕ) (v : ℕ) → v < 5 → held_at hold5 o v < 5
+held_below None v l = l
+held_below (Some s) v l = hold_below s v
 
 agreed-below : (f : ℕ → ℕ) → ((w : ℕ) → f w < 5) → (ws : List ℕ) → agreed (map f ws) < 5
 agreed-below f l [] = lit< tt

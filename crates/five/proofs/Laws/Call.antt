@@ -4,9 +4,11 @@ use mathlib.Core.Option.{none}
 use mathlib.Core.List.{List, [], ◌∷◌}
 use Prim.Native.Nat.{ℕ}
 use lib.ListN.{length, get_or}
+use Rattle.std.specs.Prelude.{Result, Ok, Err}
 use Rattle.board.specs.declared.Fault.{Fault}
 use Rattle.board.specs.declared.Condition.TheVariants.{Having}
 use Rattle.image.specs.Image.{board_of}
+use Rattle.image.specs.declared.Refusal.{Refusal}
 use Rattle.image.specs.Refusals.{first_refusal}
 use Rattle.image.specs.Promise.{Owes}
 use Rattle.image.specs.Calls.{◌then◌, bad_row, fault_refusals}
@@ -17,17 +19,15 @@ use Rattle.five.specs.Partial.{bad_partial}
 use Rattle.five.specs.Driven.{driven}
 use Rattle.five.specs.Five.{driven_says, five_refusals, five_row, five_promise}
 use Rattle.five.specs.Inner.{FiveFillable}
-use Rattle.five.specs.declared.Driven.{Driven}
-use Rattle.five.specs.declared.Driven.TheVariants.{Count, Refused}
 
 -- the count, or a refusal, that numbers name
-driven_back : List ℕ → Driven
-driven_back v = read_back (Count (get_or v 1 0)) Refused v
+driven_back : List ℕ → Result ℕ Refusal
+driven_back v = read_back (Ok (get_or v 1 0)) Err v
 
-driven_again : (a : Driven) → driven_back (driven_says a) ≡ a
+driven_again : (a : Result ℕ Refusal) → driven_back (driven_says a) ≡ a
 unfolding driven_back read_back
-driven_again (Count n) = refl
-driven_again (Refused r) = refused_again _ Refused r
+driven_again (Ok n) = refl
+driven_again (Err r) = refused_again _ Err r
 
 pub driven_told : Told driven_says
 driven_told = told driven_says driven_back driven_again
@@ -43,7 +43,7 @@ module _ (s : List ℕ) (named values : ℕ) (φ : Fault) (old : List ℕ) where
       record { ok = ok; condition = on_board; long = row_long s (length old) long }
 
   -- a count is that of the row, which is filled
-  pub count_says : (n : ℕ) (new : List ℕ) → Owes (five_promise s named values φ old) (new ∷ []) (driven_says (Count n))
+  pub count_says : (n : ℕ) (new : List ℕ) → Owes (five_promise s named values φ old) (new ∷ []) (driven_says (Ok n))
       → FiveFillable s (Having φ) old × (n ≡ driven (board_of s) new) × (new ≡ five_row s (Having φ) named values)
   count_says n new owes =
       let none-given = unrefused owes in

@@ -4,14 +4,16 @@ use mathlib.Core.Path.{◌≡◌, refl, sym, ap, ap₂, ◌∙◌, fun_ext}
 use mathlib.Core.Logic.{⊎_elim}
 use mathlib.Core.List.{List, [], ◌∷◌, ◌++◌, map}
 use mathlib.Core.Bool.{Bool, true, false, not, cond}
-use Prim.Native.Nat.{ℕ, zero, suc, ◌+◌, ◌-◌, ◌/◌, ◌%◌, ◌≤◌, ◌<◌}
-use native.Mathlib.Nat.{add-zero, zero-add, add-suc, le_of_suc-le-suc, not-suc-le-zero}
+use Prim.Native.Nat.{ℕ, zero, suc, ◌+◌, ◌-◌, ◌≤◌, ◌<◌}
+use native.Mathlib.Nat.{add-zero, zero-add, add-suc}
 use native.Mathlib.Numerals.{add-one}
 use native.Mathlib.Omega.{arith}
-use lib.Dec.{eqb, ltb, eqb→eq, eqb-suc-suc}
-use lib.ListN.{length, get_or, length-append, get_or-eq_default, get_or-map, get_or-append}
+use lib.Dec.{eqb, ltb, lit<, eqb→eq, eqb-suc-suc}
+use lib.ListN.{length, get_or, length-append, get_or-eq_default, get_or-append}
 use lib.Seq.{ext_get_or}
 use borrow.Author.Tests.{eqb-true, eqb-false, eq-eqb, ne_eqb, ltb-true, ltb-false}
+use Rattle.std.specs.List.{range_with_len}
+use Rattle.std.proofs.lemmas.List.FromFn.{length-map-range_with_len, get_or-map-range_with_len}
 use Rattle.board.specs.Lists.{somewhere, bit, ones, build}
 use Rattle.board.specs.Limits.{last_kind}
 use Rattle.board.specs.Fine.{most}
@@ -20,6 +22,10 @@ use Rattle.board.specs.Five.{good_half, faulty_half, pair, fillings, agreed, eve
 use Rattle.board.proofs.Lists.{way, somewhere-same, somewhere-map, ones_end, build-length, build_at}
 use Rattle.image.proofs.Laws.Fine.{tie_bare}
 use Rattle.five.specs.Table.{kind_of}
+use Rattle.five.specs.Inner.{number_of, filler_of, way_of}
+use Rattle.five.specs.declared.table.Section.{Section}
+use Rattle.five.specs.declared.table.Section.TheVariants.{And, Or, ExclusiveOr}
+use Rattle.five.specs.declared.way.Way.{Way}
 use Rattle.five.proofs.Laws.Lists.{any_default}
 use Rattle.five.proofs.Laws.Table.{from}
 
@@ -84,69 +90,64 @@ gate_opposite k l h vs =
     rw (h (length gs) (ones gs), h (length hs) (ones hs)) (pair_opposite (asks k (length gs) (ones gs)) (asks k (length hs) (ones hs))))))
     ∙ filling_opposite (λ gs hs. pair (gate k gs) (gate k hs)) vs
 
--- how each kind from 1 up goes by the table: twice its section, and one more for the opposite of what stands there; a line that is tied goes as
--- exclusive-or of no pins
-abbrev pin_ways : List ℕ
-pin_ways = 0 ∷ 1 ∷ 0 ∷ 1 ∷ 2 ∷ 3 ∷ 4 ∷ 5 ∷ []
-
-abbrev pub ways : List ℕ
-ways = pin_ways ++ (4 ∷ 5 ∷ [])
-
 -- what a way by the table asks, and the value that it has where its section has v
-abbrev asked : ℕ → ℕ → ℕ → Bool
-asked w n s = let t = asks (kind_of (w / 2)) n s in cond (eqb (w % 2) 1) (not t) t
+abbrev asked : Way → ℕ → ℕ → Bool
+asked w n s = let t = asks (kind_of (number_of w.section)) n s in cond w.opposite (not t) t
 
-abbrev pub turned : ℕ → ℕ → ℕ
-turned w v = cond (eqb (w % 2) 1) (opposite v) v
+abbrev pub turned : Way → ℕ → ℕ
+turned w v = cond w.opposite (opposite v) v
 
 -- each kind that has pins asks what its way by the table asks
-kinds_by : (n s : ℕ) → kinds n s ≡ false ∷ map (λ w. asked w n s) pin_ways ++ (false ∷ true ∷ [])
-unfolding kinds
+pinned : ℕ → ℕ → List Bool
+pinned n s = map (λ (k : ℕ). asked (way_of k) n s) (range_with_len 1 8)
+
+kinds_by : (n s : ℕ) → kinds n s ≡ false ∷ pinned n s ++ (false ∷ true ∷ [])
+unfolding kinds pinned
 kinds_by n s = refl
 
-asks_by : (k : ℕ) → k < length pin_ways → (n s : ℕ) → asks (suc k) n s ≡ asked (get_or ways k 2) n s
+asks_by : (k : ℕ) → k < 8 → (n s : ℕ) → asks (suc k) n s ≡ asked (way_of (suc k)) n s
+unfolding pinned
 asks_by k l n s =
-    let pinned = map (λ w. asked w n s) pin_ways in
     ap (λ (ts : List Bool). get_or ts (suc k) false) (kinds_by n s)
-    ∙ get_or-append pinned (false ∷ true ∷ []) false k l
-    ∙ any_default pinned k false (asked 2 n s) l
-    ∙ get_or-map (λ w. asked w n s) pin_ways k 2
-    ∙ ap (λ w. asked w n s) (sym (get_or-append pin_ways (4 ∷ 5 ∷ []) 2 k l))
+    ∙ get_or-append (pinned n s) (false ∷ true ∷ []) false k (rw (length-map-range_with_len (λ (k : ℕ). asked (way_of k) n s) 1 8) l)
+    ∙ get_or-map-range_with_len (λ (k : ℕ). asked (way_of k) n s) 1 8 k (suc k) false l (omega arith)
 
 -- so its value is what that way has
-pin_gate_by : (k : ℕ) → k < length pin_ways → (vs : List ℕ) → gate5 (suc k) vs ≡ turned (get_or ways k 2) (gate5 (kind_of (get_or ways k 2 / 2)) vs)
+pin_gate_by : (k : ℕ) → k < 8 → (vs : List ℕ) → gate5 (suc k) vs ≡ turned (way_of (suc k)) (gate5 (kind_of (number_of (way_of (suc k)).section)) vs)
 pin_gate_by k l vs =
-    let w = get_or ways k 2 in
+    let w = way_of (suc k) in
+    let by = kind_of (number_of w.section) in
     ⊎_elim
-    (λ (e : eqb (w % 2) 1 ≡ true). rw e (gate_opposite (kind_of (w / 2)) (suc k) (λ n s. asks_by k l n s ∙ rw e) vs))
-    (λ (e : eqb (w % 2) 1 ≡ false). rw e (gate_same (kind_of (w / 2)) (suc k) (λ n s. asks_by k l n s ∙ rw e) vs))
-    (way (eqb (w % 2) 1))
+    (λ (e : w.opposite ≡ true). rw e (gate_opposite by (suc k) (λ n s. asks_by k l n s ∙ rw e) vs))
+    (λ (e : w.opposite ≡ false). rw e (gate_same by (suc k) (λ n s. asks_by k l n s ∙ rw e) vs))
+    (way w.opposite)
 
 -- and of no pins that of every kind is: computed over all kinds
 bare_by : ℕ → ℕ → Bool
 unfolding every_filling kinds
-bare_by k w = eqb (gate5 (suc k) []) (turned w (gate5 (kind_of (w / 2)) []))
+bare_by k x = eqb (gate5 (suc k) []) (turned (way_of (suc k)) (gate5 (kind_of (number_of (way_of (suc k)).section)) []))
 
-gate_by : (k : ℕ) → k < length ways → (vs : List ℕ) → length vs ≤ most (suc k) → gate5 (suc k) vs ≡ turned (get_or ways k 2) (gate5 (kind_of (get_or ways k 2 / 2)) vs)
+gate_by : (k : ℕ) → k < last_kind → (vs : List ℕ) → length vs ≤ most (suc k)
+    → gate5 (suc k) vs ≡ turned (way_of (suc k)) (gate5 (kind_of (number_of (way_of (suc k)).section)) vs)
 unfolding bare_by
-gate_by k l [] few = eqb→eq _ _ (rw zero-add at (from bare_by ways 0 tt k 2 l))
+gate_by k l [] few = eqb→eq _ _ (rw zero-add at (from bare_by (range_with_len 1 last_kind) 0 tt k 2 l))
 gate_by k l (v ∷ vs) few =
     ⊎_elim
     (λ (e : ltb k 8 ≡ true). pin_gate_by k (ltb-true k 8 e) (v ∷ vs))
     (λ (e : ltb k 8 ≡ false). let tied = ltb-false k 8 e in absurd (omega (arith, few, tie_bare (suc k) (omega arith) (omega arith))))
     (way (ltb k 8))
 
-pub gate_goes : (kind w v : ℕ) (vs : List ℕ) → 0 < kind → kind ≤ last_kind → length vs ≤ most kind → w ≡ get_or ways (kind - 1) 2 → v ≡ gate5 (kind_of (w / 2)) vs
-    → turned w v ≡ gate5 kind vs
-gate_goes kind w v vs some known few e q =
+pub gate_goes : (kind v : ℕ) (vs : List ℕ) → 0 < kind → kind ≤ last_kind → length vs ≤ most kind → v ≡ gate5 (kind_of (number_of (way_of kind).section)) vs
+    → turned (way_of kind) v ≡ gate5 kind vs
+gate_goes kind v vs some known few q =
     let k : suc (kind - 1) ≡ kind = omega arith in
-    sym (rw (k, ← e, ← q) at (gate_by (kind - 1) (omega arith) vs (rw k few)))
+    sym (rw (k, ← q) at (gate_by (kind - 1) (omega arith) vs (rw k few)))
 
-pub turned_opposite : (w v r : ℕ) → w % 2 ≡ 1 → v < 5 → r ≡ get_or opposites v 2 → r ≡ turned w v
-turned_opposite w v r e l is = rw (eq-eqb (w % 2) 1 e) (is ∙ any_default opposites v 2 v l)
+pub turned_opposite : (w : Way) (v r : ℕ) → w.opposite ≡ true → v < 5 → r ≡ get_or opposites v 2 → r ≡ turned w v
+turned_opposite w v r e l is = rw e (is ∙ any_default opposites v 2 v l)
 
-pub turned_same : (w v : ℕ) → (w % 2 ≡ 1 → ⊥) → v ≡ turned w v
-turned_same w v ne = rw (ne_eqb (w % 2) 1 ne)
+pub turned_same : (w : Way) (v : ℕ) → w.opposite ≡ false → v ≡ turned w v
+turned_same w v e = rw e
 
 -- one more pin, that is settled
 filling_end : (f : List ℕ → List ℕ → ℕ) (w : ℕ) → eqb w 2 ≡ false → (vs : List ℕ)
@@ -181,30 +182,34 @@ module _ (k w : ℕ) (settled : eqb w 2 ≡ false) (plain : good_half w ≡ faul
       let past : get_or vs (length vs + m) w ≡ w = get_or-eq_default vs w (omega arith) in
       rw (add-suc, past) (one_more (build (λ j before. get_or vs j w) (length vs + m)) ∙ some_more vs m)
 
--- the sections' fillers: 1 where all pins are asked for, 0 where some or an odd number is
-abbrev pub fillers : List ℕ
-fillers = 1 ∷ 0 ∷ 0 ∷ []
-
-idle_filler : (section : ℕ) → section < 3 →
-    let w = get_or fillers section 2 in
-    (eqb w 2 ≡ false) × (good_half w ≡ faulty_half w) × ((n s : ℕ) → asks (kind_of section) (n + 1) (s + good_half w) ≡ asks (kind_of section) n s)
+-- what fills an absent pin is settled, and changes nothing of what the section's gates ask
+idle_filler : (section : Section) →
+    let w = filler_of section in
+    let k = kind_of (number_of section) in
+    (eqb w 2 ≡ false) × (good_half w ≡ faulty_half w) × ((n s : ℕ) → asks k (n + 1) (s + good_half w) ≡ asks k n s)
 unfolding kinds
-idle_filler zero l = (refl, refl, λ n s. rw (add-one, add-one) (eqb-suc-suc s n))
-idle_filler (suc zero) l = (refl, refl, λ n s. rw add-zero)
-idle_filler (suc (suc zero)) l = (refl, refl, λ n s. rw add-zero)
-idle_filler (suc (suc (suc m))) l = absurd (not-suc-le-zero (le_of_suc-le-suc (le_of_suc-le-suc (le_of_suc-le-suc l))))
+idle_filler And = (refl, refl, λ n s. rw (add-one, add-one) (eqb-suc-suc s n))
+idle_filler Or = (refl, refl, λ n s. rw add-zero)
+idle_filler ExclusiveOr = (refl, refl, λ n s. rw add-zero)
 
 -- a gate of up to four pins, absent ones filled
-four_pins : (section : ℕ) → section < 3 → (vs : List ℕ) → length vs ≤ 4 →
-    let w = get_or fillers section 2 in
-    gate5 (kind_of section) (get_or vs 0 w ∷ get_or vs 1 w ∷ get_or vs 2 w ∷ get_or vs 3 w ∷ []) ≡ gate5 (kind_of section) vs
+four_pins : (section : Section) (vs : List ℕ) → length vs ≤ 4 →
+    let w = filler_of section in
+    let k = kind_of (number_of section) in
+    gate5 k (get_or vs 0 w ∷ get_or vs 1 w ∷ get_or vs 2 w ∷ get_or vs 3 w ∷ []) ≡ gate5 k vs
 unfolding build
-four_pins section l vs few =
-    let (settled, plain, idle) = idle_filler section l in
+four_pins section vs few =
+    let (settled, plain, idle) = idle_filler section in
     let four : length vs + (4 - length vs) ≡ 4 = omega arith in
-    rw four at (some_more (kind_of section) (get_or fillers section 2) settled plain idle vs (4 - length vs))
+    rw four at (some_more (kind_of (number_of section)) (filler_of section) settled plain idle vs (4 - length vs))
 
 -- so the table's entry for what four pins read, absent ones filled, is the value
-pub pins_read : (section : ℕ) → section < 3 → (vs : List ℕ) → length vs ≤ 4 → (w : ℕ) → w ≡ get_or fillers section 2 → (a b c d : ℕ)
-    → a ≡ get_or vs 0 w → b ≡ get_or vs 1 w → c ≡ get_or vs 2 w → d ≡ get_or vs 3 w → gate5 (kind_of section) (a ∷ b ∷ c ∷ d ∷ []) ≡ gate5 (kind_of section) vs
-pins_read section l vs few w e a b c d p q r s = rw (p, q, r, s, e) (four_pins section l vs few)
+pub pins_read : (section : Section) (vs : List ℕ) → length vs ≤ 4 → (w : ℕ) → w ≡ filler_of section → (a b c d : ℕ)
+    → a ≡ get_or vs 0 w → b ≡ get_or vs 1 w → c ≡ get_or vs 2 w → d ≡ get_or vs 3 w
+    → gate5 (kind_of (number_of section)) (a ∷ b ∷ c ∷ d ∷ []) ≡ gate5 (kind_of (number_of section)) vs
+pins_read section vs few w e a b c d p q r s = rw (p, q, r, s, e) (four_pins section vs few)
+
+pub number_below : (section : Section) → number_of section < 3
+number_below And = lit< tt
+number_below Or = lit< tt
+number_below ExclusiveOr = lit< tt

@@ -44,7 +44,7 @@ module _ (φ : Condition) (s : List ℕ) (p i : ℕ) (below : List ℕ) where
     pub present_pin : (j w : ℕ) → j < byte_at s (p + 1)
         → held_at hold5 (stuck_pin φ i j) (get_or below (word_at s (p + 2 + 2 * j)) 0) ≡ get_or (read_at φ s p i below) j w
     present_pin j w l =
-        sym (any_default (read_at φ s p i below) j w 0 (rw read_length l) ∙ pin_reads s p below hold5 φ i ok.condition.held (omega (arith, few_read, read_length)) j l)
+        sym (any_default (read_at φ s p i below) j w 0 (rw read_length l) ∙ pin_reads s p below hold5 φ i j l)
 
 -- the record of each line of an accepted image has a known kind, and no more pins than the kind has
 pub record_good : (s : List ℕ) → Accepted s → (i : ℕ) → i < line_count s →

@@ -1,25 +1,27 @@
--- A search through a partial pattern's bits from below finds a value bit where no input is named just where there is one.
-use mathlib.Core.Path.{◌≡◌, refl, sym}
-use mathlib.Core.Logic.{⊎_elim}
-use mathlib.Core.Bool.{true, false}
-use Prim.Native.Nat.{ℕ, zero, suc, ◌≤◌, ◌<◌}
-use native.Mathlib.Nat.{le_of_suc-le-suc, le_of_suc-le, not-suc-le-zero, eq-or-lt_of_le, lt_of_lt_of_le, le_refl}
-use Rattle.board.proofs.Lists.{or_right}
-use Rattle.board.proofs.Search.{Below}
+-- A partial pattern's bits tried from below have a value bit where no input is named just where there is one.
+use mathlib.Core.Path.{◌≡◌, refl, ap, ◌∙◌}
+use mathlib.Core.Bool.{Bool, true, false, ◌||◌}
+use Prim.Native.Nat.{ℕ, zero, suc, ◌+◌}
+use native.Mathlib.Nat.{add-zero, zero-add}
+use native.Mathlib.Omega.{arith}
+use Rattle.std.specs.List.{list_any, range_with_len}
 use Rattle.five.specs.Partial.{is_stray, stray_below}
 
-module _ (named values : ℕ) where
-  pub stray_at : (n i : ℕ) → i < n → is_stray named values i ≡ true → true ≡ stray_below named values n
-  stray_at zero i l e = absurd (not-suc-le-zero l)
-  stray_at (suc n) i l e =
-      ⊎_elim
-      (λ (q : i ≡ n). sym (or_right (stray_below named values n) _ (rw (← q) e)))
-      (λ m. rw (← (stray_at n i m e)))
-      (eq-or-lt_of_le (le_of_suc-le-suc l))
+or_none : (a : Bool) → (a || false) ≡ a
+or_none true = refl
+or_none false = refl
 
-  none_stray : (n : ℕ) → Below (is_stray named values) n → false ≡ stray_below named values n
-  none_stray zero h = refl
-  none_stray (suc n) h = rw (← (none_stray n (λ k l. h k (lt_of_lt_of_le l (le_of_suc-le (le_refl (suc n)))))), h n (le_refl (suc n)))
+or_in_turn : (a b c : Bool) → (a || (b || c)) ≡ ((a || b) || c)
+or_in_turn true b c = refl
+or_in_turn false b c = refl
 
-  pub stray_none : (n i : ℕ) → n ≤ i → Below (is_stray named values) i → false ≡ stray_below named values n
-  stray_none n i l h = none_stray n (λ k m. h k (lt_of_lt_of_le m l))
+-- one number more is tried behind those before it
+any_next : (t : ℕ → Bool) (a n : ℕ) → list_any t (range_with_len a (suc n)) ≡ (list_any t (range_with_len a n) || t (a + n))
+any_next t a zero = rw add-zero (or_none (t a))
+any_next t a (suc n) =
+    let e : a + 1 + n ≡ a + suc n = omega arith in
+    ap (λ u. t a || u) (any_next t (a + 1) n) ∙ rw e (or_in_turn (t a) (list_any t (range_with_len (a + 1) n)) (t (a + suc n)))
+
+pub any_stray : (named values n : ℕ) → list_any (is_stray named values) (range_with_len 0 n) ≡ stray_below named values n
+any_stray named values zero = refl
+any_stray named values (suc n) = any_next (is_stray named values) 0 n ∙ rw (zero-add, any_stray named values n)

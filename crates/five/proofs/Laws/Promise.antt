@@ -9,6 +9,7 @@ use native.Mathlib.Nat.{not-suc-le-zero, zero-add}
 use lib.Dec.{eqb}
 use lib.ListN.{get_or}
 use borrow.Author.Tests.{eqb-true, eqb-false}
+use Rattle.std.specs.Prelude.{Ok}
 use Rattle.board.specs.Lists.{somewhere, bit, ones}
 use Rattle.board.specs.Board.{inputs, Low}
 use Rattle.board.specs.Row.{value}
@@ -29,7 +30,6 @@ use Rattle.image.specs.Inner.{OnBoard}
 use Rattle.image.proofs.Laws.Fine.{line_count_lem, accepted_fine}
 use Rattle.five.specs.Driven.{is_driven, driven_of, driven}
 use Rattle.five.specs.Five.{driven_says, five_row, five_promise}
-use Rattle.five.specs.declared.Driven.TheVariants.{Count}
 use Rattle.five.proofs.Laws.Call.{count_says}
 
 -- where a count is above 0, something was counted
@@ -89,7 +89,7 @@ module _ (s : List ℕ) (ok : Accepted s) (φ : Condition) (on : OnBoard s φ) (
 
 -- the call's row
 module _ (s : List ℕ) (named values : ℕ) (φ : Fault) (old : List ℕ) (n : ℕ) (new : List ℕ)
-    (owes : Owes (five_promise s named values φ old) (new ∷ []) (driven_says (Count n))) where
+    (owes : Owes (five_promise s named values φ old) (new ∷ []) (driven_says (Ok n))) where
   -- wherever it says 0, 1, D or D-bar, every completion of the partial pattern has that pair of good and faulty values there
   pub settled_always : (x : ℕ) → Completes x named values → (i : ℕ) → i < line_count s → (get_or new i 0 ≡ 2 → ⊥)
       → (good_half (get_or new i 0) ≡ value (good x) (board_of s) i) × (faulty_half (get_or new i 0) ≡ value (faulty (Having φ) x) (board_of s) i)

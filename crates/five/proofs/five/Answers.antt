@@ -1,6 +1,7 @@
 -- Its tests are its refusals in their order, and where none applies the row is filled and counted.
 use Rattle.std.proofs.Common.{◌≡◌, length}
 use Rattle.std.proofs.Math.Option.{none}
+use Rattle.std.proofs.lemmas.Result.{err_from_is_err_and}
 use Rattle.board.specs.declared.Condition.TheVariants.{Having}
 use Rattle.image.specs.Refusals.{first_refusal}
 use Rattle.image.specs.Calls.{◌then◌, fault_refusals}
@@ -10,10 +11,10 @@ use Rattle.five.specs.Five.{five_refusals, five_row}
 use Rattle.five.specs.Inner.{FiveFillable}
 use Rattle.five.proofs.Laws.Call.{fillable}
 use Rattle.five.proofs.five.Goals as goal
-use Rattle.five.proofs.five.Goals.{In-Good}
+use Rattle.five.proofs.five.Goals.{In_ok-then_row}
 
 -- no refusal applies, so the filler has what it asks
-passed : (c : In-Good) →
+passed : (c : In_ok-then_row) →
     let a = c.args in
     (first_refusal (five_refusals a.img.now a.named a.values a.fault (length a.row.now)) ≡ none) × FiveFillable a.img.now (Having a.fault) a.row.now
 unfolding five_refusals
@@ -22,24 +23,25 @@ passed c =
     let s = a.img.now in
     let named = fault_refusals s a.fault in
     let low = named then bad_partial s a.named a.values in
-    let none-given = (c.in-Good.ensures low s (c.then_partial.ensures named s c.check_fault.ensures)).0 in
+    let none-given = (c.in_ok-then_row.ensures low s (c.then_partial-tested.ensures named s c.check_fault.ensures)).0 in
     (none-given, fillable s a.named a.values a.fault a.row.now none-given)
 
 pub fill-requires : goal.fill-requires
-fill-requires c = (passed (goal.at.fill-requires c).In-Good).1
+fill-requires c = (passed (goal.at.fill-requires c).In_ok-then_row).1
 
-pub returns-in-Refused : goal.returns-in-Refused
+pub returns-in_err-then_row : goal.returns-in_err-then_row
 unfolding five_refusals
-returns-in-Refused c =
+returns-in_err-then_row c =
     let a = c.args in
     let s = a.img.now in
     let named = fault_refusals s a.fault in
     let low = named then bad_partial s a.named a.values in
-    owes_refused (c.in-Refused.ensures low s (c.then_partial.ensures named s c.check_fault.ensures))
+    let p = err_from_is_err_and c.from_residual.result c.from_residual.ensures.1 in
+    rw (p.1, p.2) (owes_refused (c.in_err-then_row.ensures low s (c.then_partial-tested.ensures named s c.check_fault.ensures)))
 
-pub returns-in-Good : goal.returns-in-Good
+pub returns : goal.returns
 unfolding five_row
-returns-in-Good c =
-    let (none-given, fills) = passed (goal.at.returns-in-Good c).In-Good in
+returns c =
+    let (none-given, fills) = passed (goal.at.returns c).In_ok-then_row in
     let is = rw fills.long at c.fill.ensures in
     rw (c.count_driven.ensures, is) (owes_done none-given)

@@ -1,18 +1,17 @@
 -- Eight words, one by one.
-use mathlib.Core.Path.{◌≡◌, refl, ap, ◌∙◌}
-use mathlib.Core.Logic.{◌⊎◌, inl, inr, ⊎_elim}
-use mathlib.Core.List.{List}
-use mathlib.Core.Bool.{Bool, true, false}
+use mathlib.Core.Path.{◌≡◌, refl, sym, ap, ◌∙◌}
+use mathlib.Core.Logic.{⊎_elim}
+use mathlib.Core.List.{List, [], ◌∷◌}
+use mathlib.Core.Bool.{Bool}
 use Prim.Native.Nat.{ℕ, zero, suc, ◌+◌, ◌*◌, ◌/◌, ◌%◌, ◌≤◌, ◌<◌}
 use native.Mathlib.Omega.{arith}
-use lib.Dec.{ltb}
 use lib.Bits.{bit_or, bit_xor, and_le_l, and_le_r, or_add_and, xor_add_and, and_self}
-use lib.ListN.{length, get_or, set, length-set}
-use lib.Seq.{get_or-set_same, get_or-set_other}
-use borrow.Author.Tests.{ltb-true, ltb-false}
+use lib.Lanes.{zip2, put_chunk, fold_l}
+use lib.ListN.{length, get_or}
+use Rattle.std.proofs.lemmas.List.{ext_get_or}
+use Rattle.std.proofs.lemmas.Simd.{length-zip2, get_or-zip2, length-put_chunk, get_or-put_chunk_below, get_or-put_chunk_at, get_or-put_chunk_above}
 use Rattle.board.specs.Lists.{bit}
 use Rattle.board.specs.Gate.{bit_of}
-use Rattle.board.proofs.Lists.{way}
 use Rattle.lanes.specs.Words.{each, Lanes}
 use Rattle.lanes.specs.Inner.{Put}
 
@@ -35,6 +34,10 @@ each_at f = each_word (λ (w : ℕ). get_or (each f) w 0 ≡ f w) refl refl refl
 pub word_at : (e : List ℕ) (f : ℕ → ℕ) → e ≡ each f → (w : ℕ) → w < 8 → get_or e w 0 ≡ f w
 word_at e f is w l = ap (λ (x : List ℕ). get_or x w 0) is ∙ each_at f w l
 
+-- eight words by what each of them is
+pub each_of : (e : List ℕ) (f : ℕ → ℕ) → length e ≡ 8 → ((w : ℕ) → w < 8 → get_or e w 0 ≡ f w) → e ≡ each f
+each_of e f long at = ext_get_or 0 e (each f) long (λ w l. let few = rw long at l in at w few ∙ sym (each_at f w few))
+
 -- what two words join to is 0 only where both are
 pub or_none : (a b : ℕ) → bit_or a b ≡ 0 → (a ≡ 0) × (b ≡ 0)
 or_none a b e =
@@ -45,18 +48,17 @@ or_none a b e =
       omega arith,
     )
 
-pub none_lit : (e : List ℕ)
-    → bit_or (bit_or (bit_or (bit_or (bit_or (bit_or (bit_or (get_or e 0 0) (get_or e 1 0)) (get_or e 2 0)) (get_or e 3 0)) (get_or e 4 0)) (get_or e 5 0)) (get_or e 6 0)) (get_or e 7 0) ≡ 0
-    → (w : ℕ) → w < 8 → get_or e w 0 ≡ 0
-none_lit e h =
-    let (l7, e7) = or_none _ _ h in
-    let (l6, e6) = or_none _ _ l7 in
-    let (l5, e5) = or_none _ _ l6 in
-    let (l4, e4) = or_none _ _ l5 in
-    let (l3, e3) = or_none _ _ l4 in
-    let (l2, e2) = or_none _ _ l3 in
-    let (e0, e1) = or_none _ _ l2 in
-    each_word (λ (w : ℕ). get_or e w 0 ≡ 0) e0 e1 e2 e3 e4 e5 e6 e7
+-- words that join to 0 are 0, each of them
+pub none_lit : (e : List ℕ) (a : ℕ) → fold_l bit_or a e ≡ 0 → (a ≡ 0) × ((w : ℕ) → get_or e w 0 ≡ 0)
+none_lit [] a h = (h, λ w. refl)
+none_lit (x ∷ xs) a h =
+    let (both, rest) = none_lit xs (bit_or a x) h in
+    let (first, here) = or_none a x both in
+    (first, λ w. at w here rest)
+  where
+    at : (w : ℕ) → x ≡ 0 → ((v : ℕ) → get_or xs v 0 ≡ 0) → get_or (x ∷ xs) w 0 ≡ 0
+    at zero here rest = here
+    at (suc w) here rest = rest w
 
 -- words that differ nowhere are one, and a word differs nowhere from itself
 pub xor_none : (a b : ℕ) → bit_xor a b ≡ 0 → a ≡ b
@@ -65,39 +67,25 @@ xor_none a b e = omega (arith, xor_add_and a b, and_le_l a b, and_le_r a b)
 pub xor_same : (a : ℕ) → bit_xor a a ≡ 0
 xor_same a = omega (arith, xor_add_and a a, and_self a)
 
--- a store of word w on the way to eight words put at a place
-pub record PutTo (old : List ℕ) (at : ℕ) (e : List ℕ) (n : ℕ) (new : List ℕ) : Type 0 where
-  pub long : length new ≡ length old
-  pub here : (w : ℕ) → w < n → get_or new (at + w) 0 ≡ get_or e w 0
-  pub off : (k : ℕ) → (k < at) ⊎ (at + n ≤ k) → get_or new k 0 ≡ get_or old k 0
+-- eight words joined with eight, one of them
+pub joined_at : (f : ℕ → ℕ → ℕ) (a b : List ℕ) → length a ≡ 8 → length b ≡ 8 → (w : ℕ) → w < 8 → get_or (zip2 f a b) w 0 ≡ f (get_or a w 0) (get_or b w 0)
+joined_at f a b m n w l = get_or-zip2 f a b w 0 0 0 (omega arith) (omega arith)
 
-pub put_none : (old : List ℕ) (at : ℕ) (e : List ℕ) → PutTo old at e 0 old
-put_none old at e = record { long = refl; here = λ w l. absurd (omega arith); off = λ k s. refl }
+-- eight words joined with one word
+pub joined_alike : (f : ℕ → ℕ → ℕ) (a : List ℕ) (v : ℕ) → length a ≡ 8 → (w : ℕ) → w < 8 → get_or (zip2 f a (each (λ i. v))) w 0 ≡ f (get_or a w 0) v
+joined_alike f a v m w l = joined_at f a (each (λ i. v)) m refl w l ∙ ap (f (get_or a w 0)) (each_at (λ i. v) w l)
 
-pub put_next : (old : List ℕ) (at : ℕ) (e : List ℕ) (n v : ℕ) (new : List ℕ) → at + n < length old → v ≡ get_or e n 0 → PutTo old at e n new
-    → PutTo old at e (n + 1) (set new (at + n) v)
-put_next old at e n v new inside is h =
-    record {
-      long = length-set new (at + n) v ∙ h.long;
-      here = λ w l.
-          ⊎_elim
-          (λ (q : ltb w n ≡ true).
-          let m = ltb-true w n q in
-          get_or-set_other new (at + n) (at + w) v 0 (λ r. omega arith) ∙ h.here w m)
-          (λ (q : ltb w n ≡ false).
-          let m = ltb-false w n q in
-          let same : w ≡ n = omega arith in
-          rw same (get_or-set_same new (at + n) v 0 (omega (arith, h.long)) ∙ is))
-          (way (ltb w n));
-      off = λ k s.
-          get_or-set_other new (at + n) k v 0 (λ r. ⊎_elim (λ l. omega arith) (λ l. omega arith) s)
-          ∙ h.off k (⊎_elim inl (λ l. inr (omega arith)) s);
-    }
+-- eight words joined with eight, all of them
+pub joined_is : (f : ℕ → ℕ → ℕ) (a b : List ℕ) → length a ≡ 8 → length b ≡ 8 → zip2 f a b ≡ each (λ w. f (get_or a w 0) (get_or b w 0))
+joined_is f a b m n = each_of (zip2 f a b) _ (length-zip2 f a b (m ∙ sym n) ∙ m) (joined_at f a b m n)
 
-pub put_all : (old : List ℕ) (at : ℕ) (e : List ℕ) (n : ℕ) (new : List ℕ) → 8 ≤ n → n ≤ 8 → PutTo old at e n new → Put old at e new
-put_all old at e n new l m h =
-    let all : n ≡ 8 = omega arith in
-    record { long = h.long; here = λ w k. h.here w (omega arith); off = λ k s. h.off k (⊎_elim inl (λ q. inr (omega arith)) s) }
+-- eight words put at a place
+pub put_at : (old : List ℕ) (at : ℕ) (e : List ℕ) → at + 8 ≤ length old → length e ≡ 8 → Put old at e (put_chunk at old e)
+put_at old at e inside long = record {
+  long = length-put_chunk at old e;
+  here = λ w l. get_or-put_chunk_at at old e w 0 (omega arith) (omega arith);
+  off = λ k s. ⊎_elim (λ l. get_or-put_chunk_below at old e k 0 l) (λ l. get_or-put_chunk_above at old e k 0 (omega arith)) s;
+}
 
 -- a word has a test's value in each of its 64 lanes
 abbrev pub Holds : ℕ → (ℕ → Bool) → ℕ → Type 0

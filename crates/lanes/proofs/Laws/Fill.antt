@@ -1,9 +1,9 @@
--- A gate's words from flat numbers: what stands at its pins' places are its pins' words.
+-- A gate's words from a board decoded: what stands at its pins' places are its pins' words.
 use mathlib.Core.Path.{◌≡◌, sym, ap, ◌∙◌}
 use mathlib.Core.Logic.{inl, inr, ⊎_elim}
 use mathlib.Core.List.{List, map}
 use mathlib.Core.Bool.{Bool, true, false}
-use Prim.Native.Nat.{ℕ, zero, suc, ◌+◌, ◌-◌, ◌*◌, ◌≤◌, ◌<◌}
+use Prim.Native.Nat.{ℕ, zero, suc, ◌+◌, ◌*◌, ◌≤◌, ◌<◌}
 use native.Mathlib.Omega.{arith}
 use lib.Dec.{ltb}
 use lib.ListN.{length, get_or, length-map}
@@ -17,7 +17,8 @@ use Rattle.board.proofs.Fine.{fine_low}
 use Rattle.image.proofs.Laws.Fine.{four_used}
 use Rattle.image.proofs.Laws.Line.{map_at}
 use Rattle.lanes.specs.Words.{full, words, input_word, gate_word}
-use Rattle.lanes.specs.Inner.{size, Flat, Roomy, GoodTo, Put, GateWords}
+use Rattle.lanes.specs.declared.flat.Gate.{Gate}
+use Rattle.lanes.specs.Inner.{size, gate_at, Flat, Roomy, GoodTo, Put, GateWords}
 use Rattle.lanes.proofs.Laws.Flat.{at_among, among_at}
 
 -- what holds of each of four
@@ -28,7 +29,7 @@ each-four P a b c d (suc (suc zero)) l = c
 each-four P a b c d (suc (suc (suc zero))) l = d
 each-four P a b c d (suc (suc (suc (suc j)))) l = absurd (omega arith)
 
-module _ {b : Board} {flat : List ℕ} (is : Flat b flat) (i : ℕ) (inside : i < size b) where
+module _ {b : Board} {flat : List Gate} (is : Flat b flat) (i : ℕ) (inside : i < size b) where
   pub low_board : Low b
   low_board = fine_low b is.fine
 
@@ -39,47 +40,39 @@ module _ {b : Board} {flat : List ℕ} (is : Flat b flat) (i : ℕ) (inside : i 
   pub gate_kind : 0 < length (record_of b i).pins → (record_of b i).kind ≡ 0 → ⊥
   gate_kind some e = omega (arith, rw e at (is.fine.records i inside).few)
 
-  -- a pin's number, by its place
-  pub pin_number : (k : ℕ) → 8 * i + 2 ≤ k → k < 8 * i + 6 → get_or flat k 0 < size b
-  pin_number k least most =
-      let same : 8 * i + 2 + (k - (8 * i + 2)) ≡ k = omega arith in
-      rw same at (is.inside i (k - (8 * i + 2)) inside (omega arith))
-
   -- the line on pin j
-  pub pin_among : (j : ℕ) → j < length (record_of b i).pins → get_or flat (8 * i + 2 + j) 0 among (record_of b i).pins
+  pub pin_among : (j : ℕ) → j < length (record_of b i).pins → get_or (gate_at flat i).pins j 0 among (record_of b i).pins
   pin_among j l = rw (is.pin i j inside l) (at_among (record_of b i).pins j l)
 
-  pub pin_low : (j : ℕ) → j < length (record_of b i).pins → get_or flat (8 * i + 2 + j) 0 < i
+  pub pin_low : (j : ℕ) → j < length (record_of b i).pins → get_or (gate_at flat i).pins j 0 < i
   pin_low j l = low_board i _ (pin_among j l)
 
   -- what fails at each pin's number fails at each pin's line
-  pub quiet_pin : (t : ℕ → Bool) → ((j : ℕ) → j < get_or flat (8 * i + 1) 0 → t (get_or flat (8 * i + 2 + j) 0) ≡ false)
+  pub quiet_pin : (t : ℕ → Bool) → ((j : ℕ) → j < (gate_at flat i).count → t (get_or (gate_at flat i).pins j 0) ≡ false)
       → (p : ℕ) → p among (record_of b i).pins → t p ≡ false
   quiet_pin t h p m =
       let (j, l, e) = among_at (record_of b i).pins p m in
       rw (e, ← (is.pin i j inside l)) (h j (rw (is.count i inside) l))
 
   -- where a function's value stands at each pin's place, the gate's word is made of those values
-  pub gate_of : (F : ℕ → ℕ) (kind count : ℕ) (places rows r : List ℕ) → GateWords kind count places rows r
-      → kind ≡ get_or flat (8 * i) 0 → count ≡ get_or flat (8 * i + 1) 0 → (w : ℕ) → w < 8
-      → ((j : ℕ) → j < length (record_of b i).pins → get_or rows (get_or places j 0 + w) 0 ≡ F (get_or flat (8 * i + 2 + j) 0))
+  pub gate_of : (F : ℕ → ℕ) (places rows r : List ℕ) → GateWords (gate_at flat i).kind (gate_at flat i).count places rows r → (w : ℕ) → w < 8
+      → ((j : ℕ) → j < length (record_of b i).pins → get_or rows (get_or places j 0 + w) 0 ≡ F (get_or (gate_at flat i).pins j 0))
       → get_or r w 0 ≡ gate_word (record_of b i).kind (map F (record_of b i).pins)
-  gate_of F kind count places rows r words_are kind_is count_is w l at =
+  gate_of F places rows r words_are w l at =
       let pins = (record_of b i).pins in
-      let many : count ≡ length pins = count_is ∙ is.count i inside in
+      let many : (gate_at flat i).count ≡ length pins = is.count i inside in
       words_are w (map F pins) l (length-map pins F ∙ sym many) (λ j m.
       let k = rw many at m in
       map_at F pins j k ∙ sym (ap F (is.pin i j inside k)) ∙ sym (at j k))
-      ∙ ap (λ (q : ℕ). gate_word q (map F pins)) (kind_is ∙ is.kind i inside)
+      ∙ ap (λ (q : ℕ). gate_word q (map F pins)) (is.kind i inside)
 
   -- the good word of an input, and of a gate
-  pub good_input : (base kind : ℕ) → kind ≡ get_or flat (8 * i) 0 → kind ≡ 0 → input_word base i ≡ value (words base) b i
-  good_input base kind kind_is e = sym (value_is (words base) b low_board i ∙ rw (eq-eqb (record_of b i).kind 0 (sym (is.kind i inside) ∙ sym kind_is ∙ e)))
+  pub good_input : (base : ℕ) → (gate_at flat i).kind ≡ 0 → input_word base i ≡ value (words base) b i
+  good_input base e = sym (value_is (words base) b low_board i ∙ rw (eq-eqb (record_of b i).kind 0 (sym (is.kind i inside) ∙ e)))
 
-  pub good-gate : (base kind : ℕ) → kind ≡ get_or flat (8 * i) 0 → (kind ≡ 0 → ⊥)
+  pub good-gate : (base : ℕ) → ((gate_at flat i).kind ≡ 0 → ⊥)
       → gate_word (record_of b i).kind (map (value (words base) b) (record_of b i).pins) ≡ value (words base) b i
-  good-gate base kind kind_is ne =
-      sym (value_is (words base) b low_board i ∙ rw (ne_eqb (record_of b i).kind 0 (λ e. ne (kind_is ∙ is.kind i inside ∙ e))))
+  good-gate base ne = sym (value_is (words base) b low_board i ∙ rw (ne_eqb (record_of b i).kind 0 (λ e. ne (is.kind i inside ∙ e))))
 
 -- eight words put among those of the lines leave the room behind them
 pub room_kept : {b : Board} {at : ℕ} {rows e new : List ℕ} → Put rows at e new → at + 8 ≤ 16 * size b → Roomy b rows → Roomy b new

@@ -1,19 +1,19 @@
--- A board decoded number by number: each store puts the next number of a record, notes a line's last reader, or marks an output, and keeps all
--- that the others left.
-use mathlib.Core.Path.{◌≡◌, refl, sym, ap, ◌∙◌}
+-- A board decoded record by record: each step notes a line's last reader, puts a line's gate, or marks an output, and keeps all that the others
+-- left.
+use mathlib.Core.Path.{◌≡◌, refl, sym, ◌∙◌}
 use mathlib.Core.Logic.{inl, inr, ⊎_elim}
 use mathlib.Core.List.{List, [], ◌∷◌, ◌++◌}
 use mathlib.Core.Bool.{Bool, true, false, ◌||◌}
 use Prim.Native.Nat.{ℕ, zero, suc, ◌+◌, ◌*◌, ◌≤◌, ◌<◌}
-use native.Mathlib.Nat.{le_of_suc-le-suc, not-suc-le-zero, lt_trans}
+use native.Mathlib.Nat.{le_of_suc-le-suc, not-suc-le-zero, lt_trans, le_refl}
 use native.Mathlib.Numerals.{add-one}
 use native.Mathlib.Omega.{arith}
-use lib.Dec.{eqb, ltb, lit<}
+use lib.Dec.{eqb, ltb}
 use lib.ListN.{length, get_or, set, length-set, get_or-eq_default}
 use lib.Seq.{get_or-set_same, get_or-set_other}
-use borrow.Author.Tests.{eqb-true, eqb-false, ltb-true, ltb-false}
+use borrow.Author.Tests.{eqb-true, eqb-false, ltb-true, ltb-false, eq-eqb, ne_eqb}
 use Rattle.board.specs.Lists.{◌among◌, somewhere, build}
-use Rattle.board.specs.Board.{Record, Board, record_of}
+use Rattle.board.specs.Board.{Board, record_of, Low}
 use Rattle.board.specs.Fine.{Fine}
 use Rattle.board.proofs.Lists.{way, or_right, build_at}
 use Rattle.board.proofs.Fine.{fine_low}
@@ -24,7 +24,8 @@ use Rattle.image.proofs.Laws.Fine.{line_count_lem, four_used, accepted_fine}
 use Rattle.image.proofs.Laws.Records.{records_at}
 use Rattle.image.proofs.Laws.Line.{pin_count}
 use Rattle.reach.proofs.Laws.Image.{output_inside, pin_inside}
-use Rattle.lanes.specs.Inner.{size, Flat, numbers_of, Decoded}
+use Rattle.lanes.specs.declared.flat.Gate.{Gate}
+use Rattle.lanes.specs.Inner.{size, bare_gate, gate_at, read_by, as_output, Flat, Decoded}
 
 -- what stands at a place stands in the list, and what stands in the list stands at a place
 pub at_among : (xs : List ℕ) (j : ℕ) → j < length xs → get_or xs j 0 among xs
@@ -46,188 +47,138 @@ somewhere_end t (x ∷ xs) y =
     (λ (e : t x ≡ false). rw e (somewhere_end t xs y))
     (way (t x))
 
--- a record's pin among its numbers
-pin_number : (r : Record) (j : ℕ) → get_or (numbers_of r) (2 + j) 0 ≡ get_or r.pins j 0
-pin_number r j = let two : 2 + j ≡ suc (suc j) = omega arith in rw two
-
--- where the numbers before the end are 0, so is what stands past it
-pub cleared_all : (flat : List ℕ) (k : ℕ) → length flat ≤ k → ((j : ℕ) → j < k → get_or flat j 0 ≡ 0) → (j : ℕ) → get_or flat j 0 ≡ 0
-cleared_all flat k all below j =
-    ⊎_elim
-    (λ (t : ltb j k ≡ true). below j (ltb-true j k t))
-    (λ (t : ltb j k ≡ false). let past = ltb-false j k t in get_or-eq_default flat 0 {n = j} (omega arith))
-    (way (ltb j k))
-
 -- nothing is decoded yet
-none_decoded : {b : Board} {flat : List ℕ} → 0 < size b → 8 * size b ≤ length flat → ((k : ℕ) → get_or flat k 0 ≡ 0) → Decoded b 0 [] flat
-none_decoded some long zeros = record {
+none_decoded : {b : Board} {flat : List Gate} → size b ≤ length flat → Decoded b 0 [] flat
+none_decoded long = record {
   long = long;
-  done = λ i f l m. absurd (not-suc-le-zero m);
-  bare = λ i f l m. zeros (8 * i + f);
-  out = λ i. zeros (8 * i + 6);
-  last = λ i j l m n. absurd (not-suc-le-zero m);
-  last_inside = λ i. rw (zeros (8 * i + 7)) some;
+  kind = λ i l. absurd (not-suc-le-zero l);
+  count = λ i l. absurd (not-suc-le-zero l);
+  pin = λ i j l m. absurd (not-suc-le-zero l);
+  out = λ i l. absurd (not-suc-le-zero l);
+  last = λ i p l m. absurd (not-suc-le-zero l);
+  last_inside = λ i l. absurd (not-suc-le-zero l);
 }
 
-module _ {b : Board} {at : ℕ} {marked flat : List ℕ} (so : Decoded b at marked flat) where
-  kept : (place v k : ℕ) → (k ≡ place → ⊥) → get_or (set flat place v) k 0 ≡ get_or flat k 0
-  kept place v k off = get_or-set_other flat place k v 0 off
+-- where a gate is put at a place, what holds of it there and of the others elsewhere
+module _ (flat : List Gate) (k : ℕ) (g : Gate) (inside : k < length flat) where
+  pub gate_put : (P : Gate → Type 0) (i : ℕ) → (i ≡ k → P g) → ((i ≡ k → ⊥) → P (gate_at flat i)) → P (gate_at (set flat k g) i)
+  gate_put P i here there =
+      ⊎_elim
+      (λ (t : eqb i k ≡ true). let same = eqb-true i k t in rw (same, get_or-set_same flat k g bare_gate inside) (here same))
+      (λ (t : eqb i k ≡ false). let off = eqb-false i k t in rw (get_or-set_other flat k i g bare_gate off) (there off))
+      (way (eqb i k))
 
-  -- the next number of a record; a pin's where its line is noted as read
-  next_decoded : (i f : ℕ) {v after : ℕ} → f < 6 → at ≡ 8 * i + f → at < length flat → v ≡ get_or (numbers_of (record_of b i)) f 0
-      → ((j : ℕ) → f ≡ 2 + j → j < length (record_of b i).pins → i ≤ get_or flat (8 * get_or (record_of b i).pins j 0 + 7) 0) → after ≡ at + 1
-      → Decoded b after marked (set flat at v)
-  next_decoded i f {v} {after} few is inside gives noted more =
-      record {
-        long = rw (length-set flat at v) so.long;
-        done = λ k g l m.
-            ⊎_elim
-            (λ (t : eqb (8 * k + g) at ≡ true).
-            let here = eqb-true (8 * k + g) at t in
-            let line : k ≡ i = omega arith in
-            let field : g ≡ f = omega arith in
-            rw here (get_or-set_same flat at v 0 inside ∙ gives ∙ cc))
-            (λ (t : eqb (8 * k + g) at ≡ false).
-            let off = eqb-false (8 * k + g) at t in
-            kept at v (8 * k + g) off ∙ so.done k g l (omega (arith, off)))
-            (way (eqb (8 * k + g) at));
-        bare = λ k g l m. kept at v (8 * k + g) (λ e. omega arith) ∙ so.bare k g l (omega arith);
-        out = λ k. kept at v (8 * k + 6) (λ e. omega arith) ∙ so.out k;
-        last = λ k j l m n.
-            rw (kept at v (8 * get_or (record_of b k).pins j 0 + 7) (λ e. omega arith))
-            (⊎_elim
-            (λ (t : eqb (8 * k + 2 + j) at ≡ true).
-            let here = eqb-true (8 * k + 2 + j) at t in
-            let line : k ≡ i = omega arith in
-            rw line (noted j (omega arith) (rw line at n)))
-            (λ (t : eqb (8 * k + 2 + j) at ≡ false).
-            let off = eqb-false (8 * k + 2 + j) at t in
-            so.last k j l (omega (arith, off)) n)
-            (way (eqb (8 * k + 2 + j) at)));
-        last_inside = λ k. rw (kept at v (8 * k + 7) (λ e. omega arith)) (so.last_inside k);
-      }
+  -- what the gate has in common with the one before it
+  gate_kept : {A : Type 0} (f : Gate → A) → f g ≡ f (gate_at flat k) → (i : ℕ) → f (gate_at (set flat k g) i) ≡ f (gate_at flat i)
+  gate_kept f same i = gate_put (λ x. f x ≡ f (gate_at flat i)) i (λ e. rw e same) (λ off. refl)
 
+module _ {b : Board} {n : ℕ} {marked : List ℕ} {flat : List Gate} (so : Decoded b n marked flat) where
   -- a line noted as the last that reads another
-  note_decoded : {i place : ℕ} (p : ℕ) → place ≡ 8 * p + 7 → place < length flat → i < size b → at ≤ 8 * i + 8 → Decoded b at marked (set flat place i)
-  note_decoded {i} {place} p is inside low far =
+  note_decoded : (line p : ℕ) → p < length flat → n ≤ line → line < size b → Decoded b n marked (set flat p (read_by (gate_at flat p) line))
+  note_decoded line p inside above low =
+      let g = read_by (gate_at flat p) line in
       record {
-        long = rw (length-set flat place i) so.long;
-        done = λ k g l m. kept place i (8 * k + g) (λ e. omega arith) ∙ so.done k g l m;
-        bare = λ k g l m. kept place i (8 * k + g) (λ e. omega arith) ∙ so.bare k g l m;
-        out = λ k. kept place i (8 * k + 6) (λ e. omega arith) ∙ so.out k;
-        last = λ k j l m n. at_either (λ v. k ≤ v) (8 * get_or (record_of b k).pins j 0 + 7) (omega arith) (so.last k j l m n);
-        last_inside = λ k. at_either (λ v. v < size b) (8 * k + 7) low (so.last_inside k);
+        long = rw (length-set flat p g) so.long;
+        kind = λ i l. gate_kept flat p g inside (λ x. x.kind) refl i ∙ so.kind i l;
+        count = λ i l. gate_kept flat p g inside (λ x. x.count) refl i ∙ so.count i l;
+        pin = λ i j l m. gate_kept flat p g inside (λ x. get_or x.pins j 0) refl i ∙ so.pin i j l m;
+        out = λ i l. gate_kept flat p g inside (λ x. x.is_output) refl i ∙ so.out i l;
+        last = λ i q l m. gate_put flat p g inside (λ x. i ≤ x.last_reader) q (λ e. omega arith) (λ off. so.last i q l m);
+        last_inside = λ i l. gate_put flat p g inside (λ x. x.last_reader < size b) i (λ e. low) (λ off. so.last_inside i l);
       }
-    where
-      at_either : (P : ℕ → Type 0) (k : ℕ) → P i → P (get_or flat k 0) → P (get_or (set flat place i) k 0)
-      at_either P k new old =
-          ⊎_elim
-          (λ (t : eqb k place ≡ true). rw (eqb-true k place t, get_or-set_same flat place i 0 inside) new)
-          (λ (t : eqb k place ≡ false). rw (kept place i k (eqb-false k place t)) old)
-          (way (eqb k place))
 
   -- an output marked
-  mark_decoded : {place : ℕ} (o : ℕ) → place ≡ 8 * o + 6 → place < length flat → Decoded b at (marked ++ (o ∷ [])) (set flat place 1)
-  mark_decoded {place} o is inside =
+  mark_decoded : (o : ℕ) → o < length flat → Decoded b n (marked ++ (o ∷ [])) (set flat o (as_output (gate_at flat o)))
+  mark_decoded o inside =
+      let g = as_output (gate_at flat o) in
       record {
-        long = rw (length-set flat place 1) so.long;
-        done = λ k g l m. kept place 1 (8 * k + g) (λ e. omega arith) ∙ so.done k g l m;
-        bare = λ k g l m. kept place 1 (8 * k + g) (λ e. omega arith) ∙ so.bare k g l m;
-        out = λ k.
-            ⊎_elim
-            (λ (t : eqb k o ≡ true).
-            let here : 8 * k + 6 ≡ place = omega (arith, eqb-true k o t) in
-            rw (here, somewhere_end (eqb k) marked o, t) (get_or-set_same flat place 1 0 inside))
-            (λ (t : eqb k o ≡ false).
-            rw (somewhere_end (eqb k) marked o, t) (kept place 1 (8 * k + 6) (λ e. eqb-false k o t (omega arith)) ∙ so.out k))
-            (way (eqb k o));
-        last = λ k j l m n. rw (kept place 1 (8 * get_or (record_of b k).pins j 0 + 7) (λ e. omega arith)) (so.last k j l m n);
-        last_inside = λ k. rw (kept place 1 (8 * k + 7) (λ e. omega arith)) (so.last_inside k);
+        long = rw (length-set flat o g) so.long;
+        kind = λ i l. gate_kept flat o g inside (λ x. x.kind) refl i ∙ so.kind i l;
+        count = λ i l. gate_kept flat o g inside (λ x. x.count) refl i ∙ so.count i l;
+        pin = λ i j l m. gate_kept flat o g inside (λ x. get_or x.pins j 0) refl i ∙ so.pin i j l m;
+        out = λ i l.
+            rw (somewhere_end (eqb i) marked o)
+            (gate_put flat o g inside (λ x. x.is_output ≡ (eqb i o || somewhere (eqb i) marked)) i
+            (λ e. rw (eq-eqb i o e) refl)
+            (λ off. rw (ne_eqb i o off) (so.out i l)));
+        last = λ i q l m. rw (gate_kept flat o g inside (λ x. x.last_reader) refl q) (so.last i q l m);
+        last_inside = λ i l. rw (gate_kept flat o g inside (λ x. x.last_reader) refl i) (so.last_inside i l);
       }
 
-  -- past a record's pins the numbers stay 0
-  line_decoded : {after : ℕ} (i : ℕ) → at ≡ 8 * i + 2 + length (record_of b i).pins → length (record_of b i).pins ≤ 4 → after ≡ 8 * i + 8
-      → Decoded b after marked flat
-  line_decoded {after} i is few all = record {
-    long = so.long;
-    done = λ k g l m.
-        ⊎_elim
-        (λ (t : ltb (8 * k + g) at ≡ true). so.done k g l (ltb-true (8 * k + g) at t))
-        (λ (t : ltb (8 * k + g) at ≡ false).
-        let past = ltb-false (8 * k + g) at t in
-        let line : k ≡ i = omega arith in
-        let same : length (record_of b k).pins ≡ length (record_of b i).pins = rw line in
-        so.bare k g l past ∙ sym (get_or-eq_default (numbers_of (record_of b k)) 0 {n = g} (omega arith)))
-        (way (ltb (8 * k + g) at));
-    bare = λ k g l m. so.bare k g l (omega arith);
-    out = so.out;
-    last = λ k j l m n.
-        so.last k j l
-        (⊎_elim
-        (λ (t : ltb (8 * k + 2 + j) at ≡ true). ltb-true (8 * k + 2 + j) at t)
-        (λ (t : ltb (8 * k + 2 + j) at ≡ false).
-        let past = ltb-false (8 * k + 2 + j) at t in
-        let line : k ≡ i = omega arith in
-        let used = rw line at n in
-        omega arith)
-        (way (ltb (8 * k + 2 + j) at)))
-        n;
-    last_inside = so.last_inside;
-  }
+-- a line's gate, put where its pins' lines are noted as read
+next_decoded : {b : Board} {n : ℕ} {flat : List Gate} → Low b → n < size b → Decoded b n [] flat → (g : Gate)
+    → g.kind ≡ (record_of b n).kind → g.count ≡ length (record_of b n).pins → ((j : ℕ) → j < 4 → get_or g.pins j 0 ≡ get_or (record_of b n).pins j 0)
+    → g.is_output ≡ false → g.last_reader ≡ 0 → ((p : ℕ) → p among (record_of b n).pins → n ≤ (gate_at flat p).last_reader)
+    → Decoded b (n + 1) [] (set flat n g)
+next_decoded {b} {n} {flat} low few so g kind count pin off unread read =
+    let inside : n < length flat = omega (arith, so.long) in
+    record {
+      long = rw (length-set flat n g) so.long;
+      kind = λ i l. gate_put flat n g inside (λ x. x.kind ≡ (record_of b i).kind) i (λ e. rw e kind) (λ ne. so.kind i (omega arith));
+      count = λ i l. gate_put flat n g inside (λ x. x.count ≡ length (record_of b i).pins) i (λ e. rw e count) (λ ne. so.count i (omega arith));
+      pin = λ i j l m.
+          gate_put flat n g inside (λ x. get_or x.pins j 0 ≡ get_or (record_of b i).pins j 0) i (λ e. rw e (pin j m)) (λ ne. so.pin i j (omega arith) m);
+      out = λ i l. gate_put flat n g inside (λ x. x.is_output ≡ false) i (λ e. off) (λ ne. so.out i (omega arith));
+      last = λ i p l m.
+          let under = low i p m in
+          gate_put flat n g inside (λ x. i ≤ x.last_reader) p (λ e. absurd (omega arith)) (λ ne.
+          ⊎_elim
+          (λ (t : eqb i n ≡ true). let same = eqb-true i n t in rw same (read p (rw same at m)))
+          (λ (t : eqb i n ≡ false). let other = eqb-false i n t in so.last i p (omega arith) m)
+          (way (eqb i n)));
+      last_inside = λ i l. gate_put flat n g inside (λ x. x.last_reader < size b) i (λ e. omega arith) (λ ne. so.last_inside i (omega arith));
+    }
 
 -- a board that is decoded to the end, with its outputs marked
-all_decoded : {b : Board} {at : ℕ} {flat : List ℕ} → Fine b → ((i : ℕ) → i < size b → length (record_of b i).pins ≤ 4) → at ≡ 8 * size b
-    → Decoded b at b.outs flat → Flat b flat
-all_decoded {b} {at} {flat} fine four all so =
+all_decoded : {b : Board} {n : ℕ} {flat : List Gate} → Fine b → ((i : ℕ) → i < size b → length (record_of b i).pins ≤ 4) → n ≡ size b
+    → Decoded b n b.outs flat → Flat b flat
+all_decoded {b} {n} {flat} fine four all so =
+    let few : (i : ℕ) → i < size b → i < n = λ i l. omega arith in
     record {
       fine = fine;
       long = so.long;
-      kind = λ i l. let e : 8 * i + 0 ≡ 8 * i = omega arith in rw e at (so.done i 0 (lit< tt) (omega arith));
-      count = λ i l. so.done i 1 (lit< tt) (omega arith);
-      pin = λ i j l m. pin_at i j l (omega (arith, four i l));
+      kind = λ i l. so.kind i (few i l);
+      count = λ i l. so.count i (few i l);
+      pin = λ i j l m. let most = four i l in so.pin i j (few i l) (omega arith);
       inside = λ i j l m.
-          rw (pin_at i j l m)
+          rw (so.pin i j (few i l) m)
           (⊎_elim
           (λ (t : ltb j (length (record_of b i).pins) ≡ true). lt_trans (fine_low b fine i _ (at_among (record_of b i).pins j (ltb-true j _ t))) l)
           (λ (t : ltb j (length (record_of b i).pins) ≡ false). rw (get_or-eq_default (record_of b i).pins 0 (ltb-false j _ t)) fine.some_line)
           (way (ltb j (length (record_of b i).pins))));
-      out = λ i l. so.out i;
-      last = λ i p l m.
-          let (j, used, e) = among_at (record_of b i).pins p m in
-          let few = four i l in
-          rw e (so.last i j (omega arith) (omega arith) used);
-      last_inside = λ i l. so.last_inside i;
+      out = λ i l. so.out i (few i l);
+      last = λ i p l m. so.last i p (few i l) m;
+      last_inside = λ i l. so.last_inside i (few i l);
     }
-  where
-    pin_at : (i j : ℕ) → i < size b → j < 4 → get_or flat (8 * i + 2 + j) 0 ≡ get_or (record_of b i).pins j 0
-    pin_at i j l m =
-        let e : 8 * i + (2 + j) ≡ 8 * i + 2 + j = omega arith in
-        (rw e at (so.done i (2 + j) (omega arith) (omega arith))) ∙ pin_number (record_of b i) j
+
+-- a line's pins before j: they are read, the line is noted as the last that reads their lines, and the places past them are 0
+pub record Pins (b : Board) (line j : ℕ) (pins : List ℕ) (flat : List Gate) : Type 0 where
+  pub decoded : Decoded b line [] flat
+  pub four : length pins ≡ 4
+  pub pin : (k : ℕ) → k < j → get_or pins k 0 ≡ get_or (record_of b line).pins k 0
+  pub bare : (k : ℕ) → j ≤ k → get_or pins k 0 ≡ 0
+  pub read : (k : ℕ) → k < j → line ≤ (gate_at flat (get_or (record_of b line).pins k 0)).last_reader
 
 -- the board of an accepted image, decoded from its bytes
 module _ (s : List ℕ) (ok : Accepted s) where
-  pub room : {at : ℕ} {marked flat : List ℕ} → Decoded (board_of s) at marked flat → 8 * line_count s ≤ length flat
+  pub room : {n : ℕ} {marked : List ℕ} {flat : List Gate} → Decoded (board_of s) n marked flat → line_count s ≤ length flat
   room so = rw (line_count_lem s) at so.long
 
-  pub begins : {flat : List ℕ} → 8 * line_count s ≤ length flat → ((k : ℕ) → get_or flat k 0 ≡ 0) → Decoded (board_of s) 0 [] flat
-  begins long zeros = none_decoded (accepted_fine s ok).some_line (rw (line_count_lem s) long) zeros
+  pub begins : {flat : List Gate} → line_count s ≤ length flat → Decoded (board_of s) 0 [] flat
+  begins long = none_decoded (rw (line_count_lem s) long)
 
-  pub ends : {flat : List ℕ} → Decoded (board_of s) (8 * line_count s) (board_of s).outs flat → Flat (board_of s) flat
-  ends so = all_decoded (accepted_fine s ok) (four_used (accepted_fine s ok)) (ap (λ (n : ℕ). 8 * n) (sym (line_count_lem s))) so
+  pub ends : {flat : List Gate} → Decoded (board_of s) (line_count s) (board_of s).outs flat → Flat (board_of s) flat
+  ends so = all_decoded (accepted_fine s ok) (four_used (accepted_fine s ok)) (sym (line_count_lem s)) so
 
   -- one output more
-  pub output_decoded : {at j o : ℕ} {flat : List ℕ} → j < output_count s → o ≡ output_at s j
-      → Decoded (board_of s) at (words_at s (record_place s (line_count s)) j) flat
-      → Decoded (board_of s) at (words_at s (record_place s (line_count s)) (j + 1)) (set flat (8 * o + 6) 1)
+  pub output_decoded : {n j o : ℕ} {flat : List Gate} → j < output_count s → o ≡ output_at s j
+      → Decoded (board_of s) n (words_at s (record_place s (line_count s)) j) flat
+      → Decoded (board_of s) n (words_at s (record_place s (line_count s)) (j + 1)) (set flat o (as_output (gate_at flat o)))
   unfolding build
   output_decoded {j = j} l is so =
       let inside = output_inside s ok j l in
       let long = room so in
-      rw (add-one j, is) (mark_decoded so (output_at s j) refl (omega arith))
-
-  pub outputs_decoded : {at j : ℕ} {flat : List ℕ} → j ≡ output_count s → Decoded (board_of s) at (words_at s (record_place s (line_count s)) j) flat
-      → Decoded (board_of s) at (board_of s).outs flat
-  outputs_decoded all so = rw all at so
+      rw (add-one j, is) (mark_decoded so (output_at s j) (omega arith))
 
   module _ {line at : ℕ} (inside : line < line_count s) (is : at ≡ record_place s line) where
     record_is : record_of (board_of s) line ≡ record_at s at
@@ -245,33 +196,61 @@ module _ (s : List ℕ) (ok : Accepted s) where
     pub pin_low : {p : ℕ} (j : ℕ) → j < byte_at s (at + 1) → p ≡ word_at s (at + 2 + 2 * j) → p < line_count s
     pin_low j l e = rw (e, is) (pin_inside s ok j (rw is at l) refl inside)
 
-    -- a line's kind and pin count
-    pub head_decoded : {kind count after : ℕ} {marked flat : List ℕ} → kind ≡ byte_at s at → count ≡ byte_at s (at + 1) → after ≡ 8 * line + 2
-        → Decoded (board_of s) (8 * line) marked flat → Decoded (board_of s) after marked (set (set flat (8 * line) kind) (8 * line + 1) count)
-    head_decoded k c two so =
-        let long = room so in
-        let first = next_decoded so line 0 (lit< tt) (omega arith) (omega arith) (k ∙ rw record_is) (λ j e l. omega arith) refl in
-        let longer = room first in
-        next_decoded first line 1 (lit< tt) refl (omega arith) (c ∙ sym count_is) (λ j e l. omega arith) (omega arith)
+    -- no pin yet
+    pub pins_none : {pins : List ℕ} {flat : List Gate} → length pins ≡ 4 → ((k : ℕ) → get_or pins k 0 ≡ 0) → Decoded (board_of s) line [] flat
+        → Pins (board_of s) line 0 pins flat
+    pins_none four zeros so = record {
+      decoded = so;
+      four = four;
+      pin = λ k l. absurd (not-suc-le-zero l);
+      bare = λ k l. zeros k;
+      read = λ k l. absurd (not-suc-le-zero l);
+    }
 
     -- one pin more
-    pub pin_decoded : {j p : ℕ} {marked flat : List ℕ} → j < byte_at s (at + 1) → p ≡ word_at s (at + 2 + 2 * j)
-        → Decoded (board_of s) (8 * line + 2 + j) marked flat
-        → Decoded (board_of s) (8 * line + 2 + (j + 1)) marked (set (set flat (8 * p + 7) line) (8 * line + 2 + j) p)
-    pin_decoded {j} {p} {flat = flat} l e so =
-        let long = room so in
-        let low = pin_low j l e in
+    pub pins_next : {j p : ℕ} {pins : List ℕ} {flat : List Gate} → j < byte_at s (at + 1) → p ≡ word_at s (at + 2 + 2 * j)
+        → Pins (board_of s) line j pins flat
+        → Pins (board_of s) line (j + 1) (set pins j p) (set flat p (read_by (gate_at flat p) line))
+    pins_next {j} {p} {pins} {flat} l e so =
+        let long = room so.decoded in
         let few = few_pins in
-        let read = pin_is j l ∙ sym e in
-        let noted = note_decoded so {i = line} p refl (omega arith) (rw (line_count_lem s) inside) (omega arith) in
-        let longer = room noted in
-        next_decoded noted line (2 + j) (omega arith) (omega arith) (omega arith) (sym (pin_number (record_of (board_of s) line) j ∙ read))
-        (λ k same m.
-        let pin : k ≡ j = omega arith in
-        rw (pin, read, get_or-set_same flat (8 * p + 7) line 0 (omega arith)) (omega arith))
-        (omega arith)
+        let low : p < length flat = omega (arith, pin_low j l e) in
+        let most : j < length pins = omega (arith, so.four) in
+        let g = read_by (gate_at flat p) line in
+        let pin-is : get_or (record_of (board_of s) line).pins j 0 ≡ p = pin_is j l ∙ sym e in
+        record {
+          decoded = note_decoded so.decoded line p low (le_refl line) (rw (line_count_lem s) inside);
+          four = length-set pins j p ∙ so.four;
+          pin = λ k m.
+              ⊎_elim
+              (λ (t : eqb k j ≡ true). let same = eqb-true k j t in rw same (get_or-set_same pins j p 0 most ∙ sym pin-is))
+              (λ (t : eqb k j ≡ false). let off = eqb-false k j t in get_or-set_other pins j k p 0 off ∙ so.pin k (omega arith))
+              (way (eqb k j));
+          bare = λ k m. get_or-set_other pins j k p 0 (λ r. omega arith) ∙ so.bare k (omega arith);
+          read = λ k m.
+              gate_put flat p g low (λ x. line ≤ x.last_reader) (get_or (record_of (board_of s) line).pins k 0) (λ r. le_refl line) (λ off.
+              ⊎_elim
+              (λ (t : eqb k j ≡ true). absurd (off (rw (eqb-true k j t) pin-is)))
+              (λ (t : eqb k j ≡ false). let other = eqb-false k j t in so.read k (omega arith))
+              (way (eqb k j)));
+        }
 
-    -- and all
-    pub pins_decoded : {j : ℕ} {marked flat : List ℕ} → j ≡ byte_at s (at + 1) → Decoded (board_of s) (8 * line + 2 + j) marked flat
-        → Decoded (board_of s) (8 * line + 8) marked flat
-    pins_decoded all so = line_decoded so line (omega (arith, count_is)) (rw count_is few_pins) refl
+    -- and all: the line's gate
+    pub pins_decoded : {j : ℕ} {pins : List ℕ} {flat : List Gate} → j ≡ byte_at s (at + 1) → Pins (board_of s) line j pins flat → (g : Gate)
+        → g.kind ≡ byte_at s at → g.count ≡ byte_at s (at + 1) → g.pins ≡ pins → g.is_output ≡ false → g.last_reader ≡ 0
+        → Decoded (board_of s) (line + 1) [] (set flat line g)
+    pins_decoded {j} {pins} {flat} all so g kind count same off unread =
+        let b = board_of s in
+        let size_is = count_is in
+        next_decoded (fine_low b (accepted_fine s ok)) (rw (line_count_lem s) inside) so.decoded g (kind ∙ rw record_is refl) (count ∙ sym count_is)
+        (λ k l.
+        rw same
+        (⊎_elim
+        (λ (t : ltb k j ≡ true). so.pin k (ltb-true k j t))
+        (λ (t : ltb k j ≡ false).
+        let past = ltb-false k j t in
+        so.bare k past ∙ sym (get_or-eq_default (record_of b line).pins 0 {n = k} (omega arith)))
+        (way (ltb k j))))
+        off unread (λ p m.
+        let (k, l, e) = among_at (record_of b line).pins p m in
+        rw e (so.read k (omega arith)))

@@ -21,7 +21,8 @@ use Rattle.board.specs.declared.Condition.{Condition}
 use Rattle.board.proofs.Lists.{way, or_true, or_right, and_true, passes_somewhere, where_passes, somewhere-same}
 use Rattle.board.proofs.Fine.{fine_low}
 use Rattle.lanes.specs.Words.{words, flipped, flipped_words, faulty_words, seen, is_out, apart_below}
-use Rattle.lanes.specs.Inner.{size, Flat, Passed, PassedOn, Heard, adds}
+use Rattle.lanes.specs.declared.flat.Gate.{Gate}
+use Rattle.lanes.specs.Inner.{gate_at, size, Flat, Passed, PassedOn, Heard, adds}
 use Rattle.reach.proofs.Laws.Bits.{bit_low, zero_bit, or_bit}
 use Rattle.lanes.proofs.Laws.Lane.{each-bit, lane_xor}
 use Rattle.lanes.proofs.Laws.Row.{Known, good-lane, flipped_lane, faulty-lane}
@@ -141,15 +142,15 @@ module _ (b : Board) (fine : Fine b) (base number : ℕ) (base_is : base ≡ 512
       ∙ rw word_base (rw (good-lane b low known block j inside l, faulty-lane b low known block j inside φ held l))
 
 -- what is heard at first, and after one line more
-module _ {b : Board} {flat : List ℕ} (is : Flat b flat) (base l : ℕ) where
-  pub heard_first : {rows changed : List ℕ} → Passed b base l (l + 1) rows changed → Heard b l (l + 1) (get_or flat (8 * l + 7) 0) changed
+module _ {b : Board} {flat : List Gate} (is : Flat b flat) (base l : ℕ) where
+  pub heard_first : {rows changed : List ℕ} → Passed b base l (l + 1) rows changed → Heard b l (l + 1) ((gate_at flat l).last_reader) changed
   heard_first passed q p inside low m e =
       let above = leb-true l p (and_true (leb l p) _ e).0 in
       let same : p ≡ l = omega arith in
       is.last q l inside (rw same at m)
 
   pub heard_next : {i last later : ℕ} {old rows changed : List ℕ} → Heard b l i last old → PassedOn b base l i old rows changed → last ≤ later
-      → (get_or changed i 0 ≡ 1 → get_or flat (8 * i + 7) 0 ≤ later) → Heard b l (i + 1) later changed
+      → (get_or changed i 0 ≡ 1 → (gate_at flat i).last_reader ≤ later) → Heard b l (i + 1) later changed
   heard_next {i} {last} {later} {old} {rows} {changed} heard on more own q p inside low m e =
       ⊎_elim
       (λ (s : ltb p i ≡ true).

@@ -22,7 +22,8 @@ use Rattle.board.proofs.Lists.{way, map_same}
 use Rattle.board.proofs.Row.{value_is}
 use Rattle.image.proofs.Laws.Line.{map_at}
 use Rattle.lanes.specs.Words.{spread, words, gate_word, faulty_words, Lanes}
-use Rattle.lanes.specs.Inner.{size, Flat, Roomy, Block, GateWords}
+use Rattle.lanes.specs.declared.flat.Gate.{Gate}
+use Rattle.lanes.specs.Inner.{gate_at, size, Flat, Roomy, Block, GateWords}
 use Rattle.lanes.proofs.Laws.Through.{below_line, at_line}
 use Rattle.lanes.proofs.Laws.Lane.{each-bit}
 use Rattle.lanes.proofs.Laws.Eight.{lanes_of}
@@ -30,13 +31,13 @@ use Rattle.lanes.proofs.Laws.Fill.{low_board, gate_kind}
 use Rattle.lanes.proofs.Laws.Flip.{changed_holds}
 
 -- where the good words of a line and the words that its fault leaves differ, the fault changes the line
-pub own_lanes : {b : Board} {flat rows : List ℕ} (base : ℕ) → Flat b flat → Block b base rows → (φ : Condition) → stuck φ < 2 → (r : List ℕ)
+pub own_lanes : {b : Board} {flat : List Gate} {rows : List ℕ} (base : ℕ) → Flat b flat → Block b base rows → (φ : Condition) → stuck φ < 2 → (r : List ℕ)
     → ((w : ℕ) → w < 8 → get_or r w 0 ≡ bit_xor (value (words (base + 64 * w)) b (site φ)) (value (faulty_words φ (base + 64 * w)) b (site φ)))
     → Lanes r (λ x. differs b φ x (site φ)) base
 own_lanes {b} base is h φ held r own =
     lanes_of r (λ x. differs b φ x (site φ)) base (λ w l. rw (own w l) (changed_holds b is.fine base h.number h.base_is w φ held))
 
-module _ {b : Board} {flat : List ℕ} (is : Flat b flat) (l : ℕ) (inside : l < size b) (base : ℕ) where
+module _ {b : Board} {flat : List Gate} (is : Flat b flat) (l : ℕ) (inside : l < size b) (base : ℕ) where
   -- a held line
   pub line_held : (s : ℕ) → spread s ≡ value (faulty_words (Having (Line l s)) base) b l
   line_held s = sym (at_line b (low_board is l inside) (λ u w. spread u) l s (words base))
@@ -60,7 +61,7 @@ module _ {b : Board} {flat : List ℕ} (is : Flat b flat) (l : ℕ) (inside : l 
       )
 
   -- an absent pin changes nothing
-  pub pin_absent : (p s : ℕ) → get_or flat (8 * l + 1) 0 ≤ p → value (faulty_words (Having (Pin l p s)) base) b l ≡ value (words base) b l
+  pub pin_absent : (p s : ℕ) → (gate_at flat l).count ≤ p → value (faulty_words (Having (Pin l p s)) base) b l ≡ value (words base) b l
   unfolding good_pins
   pin_absent p s none-there =
       let few : length good_pins ≤ p = omega (arith, length-map pins (value (words base) b), is.count l inside) in
@@ -69,14 +70,14 @@ module _ {b : Board} {flat : List ℕ} (is : Flat b flat) (l : ℕ) (inside : l 
       ∙ sym (value_is (words base) b (low_board is l inside) l)
 
   -- where the stuck value stands in the held pin's place, and the good words in the others', the gate's word is the faulty board's
-  pub pin_held : (p s kind count : ℕ) (places rows r : List ℕ) (w : ℕ) → w < 8 → p < count → GateWords kind count places rows r
-      → kind ≡ get_or flat (8 * l) 0 → count ≡ get_or flat (8 * l + 1) 0
+  pub pin_held : (p s : ℕ) (places rows r : List ℕ) (w : ℕ) → w < 8 → p < (gate_at flat l).count
+      → GateWords (gate_at flat l).kind (gate_at flat l).count places rows r
       → get_or rows (get_or places p 0 + w) 0 ≡ spread s
-      → ((j : ℕ) → j < length pins → (j ≡ p → ⊥) → get_or rows (get_or places j 0 + w) 0 ≡ value (words base) b (get_or flat (8 * l + 2 + j) 0))
+      → ((j : ℕ) → j < length pins → (j ≡ p → ⊥) → get_or rows (get_or places j 0 + w) 0 ≡ value (words base) b (get_or (gate_at flat l).pins j 0))
       → get_or r w 0 ≡ value (faulty_words (Having (Pin l p s)) base) b l
   unfolding good_pins
-  pin_held p s kind count places rows r w k there words_are kind-is count_is here others =
-      let many : count ≡ length pins = count_is ∙ is.count l inside in
+  pin_held p s places rows r w k there words_are here others =
+      let many : (gate_at flat l).count ≡ length pins = is.count l inside in
       let size_is : length good_pins ≡ length pins = length-map pins (value (words base) b) in
       words_are w (set good_pins p (spread s)) k (length-set good_pins p (spread s) ∙ size_is ∙ sym many) (λ j m.
       ⊎_elim
@@ -91,7 +92,7 @@ module _ {b : Board} {flat : List ℕ} (is : Flat b flat) (l : ℕ) (inside : l 
       ∙ sym (ap (value (words base) b) (is.pin l j inside lt))
       ∙ sym (others j lt ne))
       (way (eqb j p)))
-      ∙ ap (λ (q : ℕ). gate_word q (set good_pins p (spread s))) (kind-is ∙ is.kind l inside)
+      ∙ ap (λ (q : ℕ). gate_word q (set good_pins p (spread s))) (is.kind l inside)
       ∙ sym (pin_rule p s ∙ rw (ne_eqb (record_of b l).kind 0 (gate_kind is l inside (omega arith))))
 
 -- the stuck value stands behind the rows of lines

@@ -12,7 +12,7 @@ use lib.Bits.{bit_or, bit_xor, or_zero_r}
 use lib.ListN.{length, get_or, set, length-set}
 use lib.Seq.{get_or-set_same, get_or-set_other}
 use borrow.Author.Tests.{eq-eqb, ne_eqb, ltb-true, ltb-false, le-leb, lt-leb}
-use Rattle.board.specs.Lists.{◌among◌, bit}
+use Rattle.board.specs.Lists.{◌among◌}
 use Rattle.board.specs.Board.{Board, record_of, Low}
 use Rattle.board.specs.Row.{value}
 use Rattle.board.specs.declared.Fault.TheVariants.{Line}
@@ -222,10 +222,8 @@ module _ (b : Board) (low : Low b) (base l : ℕ) where
   pub gather_none : (x i w : ℕ) → adds b base l i w ≡ 0 → x ≡ bit_or x (adds b base l i w)
   gather_none x i w e = sym (ap (bit_or x) e ∙ or_zero_r x)
 
-  pub adds_off : (i w o : ℕ) → o ≡ bit (is_out b i) → (o ≡ 1 → ⊥) → adds b base l i w ≡ 0
-  adds_off i w o is ne =
-      ⊎_elim (λ (q : is_out b i ≡ true). absurd (ne (is ∙ ap bit q))) (λ (q : is_out b i ≡ false). rw q) (way (is_out b i))
+  pub adds_off : (i w : ℕ) → is_out b i ≡ false → adds b base l i w ≡ 0
+  adds_off i w e = rw e
 
-  pub adds_on : (i w o : ℕ) → o ≡ bit (is_out b i) → o ≡ 1 → bit_xor (v w i) (f w i) ≡ adds b base l i w
-  adds_on i w o is one =
-      ⊎_elim (λ (q : is_out b i ≡ true). rw q) (λ (q : is_out b i ≡ false). absurd (omega (arith, is ∙ ap bit q))) (way (is_out b i))
+  pub adds_on : (i w : ℕ) → is_out b i ≡ true → bit_xor (v w i) (f w i) ≡ adds b base l i w
+  adds_on i w e = rw e

@@ -1,9 +1,5 @@
-use Rattle.std.proofs.Common.{◌-◌, ◌≤◌}
 use Rattle.reach.specs.Inner.{Handed, pin_at}
 use Rattle.reach.proofs.hand_down.Given as goal
 
 abbrev pub invariant-loop-j : goal.invariant-loop-j
-invariant-loop-j l = (l.j ≤ l.count) × Handed (pin_at l.img l.at) (λ k. l.n) l.j l.initial.numbers l.numbers
-
-abbrev pub decreases-loop-j : goal.decreases-loop-j
-decreases-loop-j l = l.count - l.j
+invariant-loop-j l = Handed (pin_at l.img l.at) (λ k. l.n) l.j l.initial.numbers l.numbers

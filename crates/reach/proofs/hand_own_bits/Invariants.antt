@@ -1,10 +1,7 @@
-use Rattle.std.proofs.Common.{◌-◌, ◌≤◌, ◌^◌}
+use Rattle.std.proofs.Common.{◌^◌}
 use Rattle.image.specs.Image.{output_at}
 use Rattle.reach.specs.Inner.{Handed}
 use Rattle.reach.proofs.hand_own_bits.Given as goal
 
 abbrev pub invariant-loop-j : goal.invariant-loop-j
-invariant-loop-j l = (l.j ≤ l.outputs) × Handed (output_at l.img) (λ k. 2 ^ k) l.j l.initial.numbers l.numbers
-
-abbrev pub decreases-loop-j : goal.decreases-loop-j
-decreases-loop-j l = l.outputs - l.j
+invariant-loop-j l = Handed (output_at l.img) (λ k. 2 ^ k) l.j l.initial.numbers l.numbers

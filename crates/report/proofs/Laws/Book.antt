@@ -6,6 +6,7 @@ use mathlib.Core.List.{List, [], ◌∷◌, ◌++◌}
 use Prim.Native.Nat.{ℕ, zero, suc, ◌+◌, ◌-◌, ◌*◌, ◌≤◌, ◌<◌}
 use native.Mathlib.Numerals.{add-one}
 use native.Mathlib.Omega.{arith}
+use Rattle.std.specs.Prelude.{Some, None}
 use lib.ListN.{length, get_or, drop, length-append}
 use lib.Seq.{take_at, get_or_at, drop-cons, drop-length}
 use Rattle.board.specs.Limits.{most_lines}
@@ -48,19 +49,20 @@ module _ (sort : Sort) where
     total_at = get_or_at (entry_lines sort (board_of s) 0 (book_of sort s)) _ [] [] (length (book_of sort s)) (lines_length (board_of s) 0 (book_of sort s))
 
     -- no line follows a refusal
-    pub nothing_after : (room : List ℕ) {r : Refusal} → first_refusal (image_refusals s) ≡ some r → RestOf sort s room (record { lines = 0; found = 0; faults = 0 })
-    nothing_after room e = record { many = rw e; inside = omega arith; filled = λ l. absurd (omega arith) }
+    pub nothing_after : (room : List ℕ) {r : Refusal} → first_refusal (image_refusals s) ≡ some r → RestOf sort s room None
+    nothing_after room e = rw e
 
     -- and the whole book where there is none: a line for each entry, and the total
     pub book_after : (front more : List ℕ) (entries n all : ℕ) → Accepted s → entries ≡ entries_a_line sort * line_count s → front ≡ book_of sort s
-        → n ≡ found (book_of sort s) → all ≡ faults_of sort (board_of s) → RestOf sort s (front ++ more) (record { lines = entries + 1; found = n; faults = all })
+        → n ≡ found (book_of sort s) → all ≡ faults_of sort (board_of s) → RestOf sort s (front ++ more) (Some (record { lines = entries + 1; found = n; faults = all }))
     book_after front more entries n all ok e is count every =
         let long : length front ≡ entries = rw is (book_length ∙ sym e) in
         let same : entries + 1 - 1 ≡ entries = omega arith in
         record {
           many = rw (ok, length-append, lines_length (board_of s) 0 (book_of sort s), book_length, e);
+          some = omega arith;
           inside = simp length-append (omega arith);
-          filled = λ l. record { ok = ok; is = rw same (take_at front more entries long ∙ is); counted = count; of_all = every };
+          filled = record { ok = ok; is = rw same (take_at front more entries long ∙ is); counted = count; of_all = every };
         }
 
 -- the pins that are used by the lines from i on, one line more at a time

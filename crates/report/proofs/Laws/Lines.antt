@@ -2,7 +2,7 @@
 use mathlib.Core.Path.{◌≡◌, refl}
 use mathlib.Core.List.{List, [], ◌∷◌}
 use mathlib.Core.Bool.{cond, ◌&&◌}
-use Prim.Native.Nat.{ℕ, zero, suc}
+use Prim.Native.Nat.{ℕ, zero, suc, min}
 use native.Mathlib.Omega.{arith}
 use lib.Dec.{eqb, ltb}
 use borrow.Author.Tests.{ne_eqb, lt-ltb}
@@ -16,13 +16,13 @@ refused_two n f s t zero not0 not1 = absurd (not0 refl)
 refused_two n f s t (suc zero) not0 not1 = absurd (not1 refl)
 refused_two n f s t (suc (suc v)) not0 not1 = refl
 
--- three or more
-pub all_three : (f s t v : ℕ) → (v ≡ 0 → ⊥) → (v ≡ 1 → ⊥) → (v ≡ 2 → ⊥) → take v (f ∷ s ∷ t ∷ []) ≡ (f ∷ s ∷ t ∷ [])
-all_three f s t zero not0 not1 not2 = absurd (not0 refl)
-all_three f s t (suc zero) not0 not1 not2 = absurd (not1 refl)
-all_three f s t (suc (suc zero)) not0 not1 not2 = absurd (not2 refl)
-all_three f s t (suc (suc (suc zero))) not0 not1 not2 = refl
-all_three f s t (suc (suc (suc (suc v)))) not0 not1 not2 = refl
+-- three at most
+pub all_said : (f s t v : ℕ) → take (min v 3) (f ∷ s ∷ t ∷ []) ≡ take v (f ∷ s ∷ t ∷ [])
+all_said f s t zero = refl
+all_said f s t (suc zero) = refl
+all_said f s t (suc (suc zero)) = refl
+all_said f s t (suc (suc (suc zero))) = refl
+all_said f s t (suc (suc (suc (suc v)))) = let most : min (suc (suc (suc (suc v)))) 3 ≡ 3 = omega arith in rw most
 
 -- a first number that is not 0 is a refusal's
 pub line_refused : (f : List ℕ) (n : ℕ) (vs : List ℕ) → (n ≡ 0 → ⊥) → line_of f (n ∷ vs) ≡ refused_text (n ∷ vs)

@@ -6,7 +6,8 @@ use mathlib.Core.Bool.{Bool, true, false}
 use Prim.Native.Nat.{ℕ, ◌+◌, ◌-◌, ◌≤◌, ◌<◌}
 use native.Mathlib.Omega.{arith}
 use lib.ListN.{length, take, drop, length-append, length-take, length-drop}
-use lib.Seq.{take_all, take-length, drop-append-le, drop-drop, take-add, drop_at, length-take-le}
+use lib.Seq.{take_all, take-length, take-paste, drop-append-le, drop-drop, take-add, drop_at, length-take-le}
+use Rattle.std.specs.List.{copy_within}
 use Rattle.image.specs.Image.{longest_image, last_twelve}
 use Rattle.image.specs.Refusals.{given, unmarked, miscounted, image_refusals, first_refusal}
 use Rattle.image.specs.Promise.{numbers}
@@ -31,16 +32,11 @@ module _ (s after : List ℕ) (r : ℕ) (whole : 12 ≤ length s) where
       let many : length last-part ≡ 12 = rw all (length-drop (length s - 12) s ∙ omega arith) in
       put_first last-part after r many end put ∙ all
 
--- twelve bytes brought to the front by way of room for twelve
-module _ (buf last after : List ℕ) (got r q : ℕ) (room : got + 12 ≤ length buf) (twelve : length last ≡ 12) where
-  abbrev part_there : List ℕ
-  part_there = take (got + 12 - got) (drop got buf)
-
-  pub brought : r ≡ 0 + length part_there → take r last ≡ part_there → q ≡ 0 + length last → take q after ≡ last → take 12 after ≡ take 12 (drop got buf)
-  brought end put back_end back =
-      let same : got + 12 - got ≡ 12 = omega arith in
-      let many : length part_there ≡ 12 = simp (length-take, length-drop) (omega arith) in
-      put_first last after q twelve back_end back ∙ sym (rw twelve at (take-length last)) ∙ put_first part_there last r many end put ∙ rw same
+-- twelve bytes brought to the front
+pub brought : (buf : List ℕ) (got : ℕ) → got + 12 ≤ length buf → take 12 (copy_within buf got (got + 12) 0) ≡ take 12 (drop got buf)
+brought buf got room =
+    let twelve : got + 12 - got ≡ 12 = omega arith in
+    rw twelve (take-paste buf 0 (drop got buf) 12 (omega arith) (omega (arith, length-drop got buf)))
 
 -- the end of a front is the front of a later part
 drop-take : (m n : ℕ) (l : List ℕ) → m ≤ length l → drop m (take (m + n) l) ≡ take n (drop m l)

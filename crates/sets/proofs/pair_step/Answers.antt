@@ -9,6 +9,6 @@ returns c =
     let s = c.args.s in
     let f = c.args.way % 2 in
     let turn = c.turn_row-turn in
-    pair_keeps (c.args.way / 2) (omega arith) f s.line s.a s.b (omega arith) c.forward-p.result c.set_at.result
+    pair_keeps (c.args.way / 2) (omega arith) f s.line _ _ (omega arith) c.forward-p.result c.set_at.result
     c.common-z.result _ _ _ c.forward-p.ensures (turned_is f s.line turn.result _ turn.ensures c.set_at.ensures)
-    c.common-z.ensures c.pin_step-q.ensures (turned_is f c.common-z.result turn.result _ turn.ensures c.set_at-line.ensures)
+    c.common-z.ensures c.pin_step-b.ensures (turned_is f c.common-z.result turn.result _ turn.ensures c.set_at-line.ensures)

@@ -1,24 +1,27 @@
--- The mark stands at i, or not before i + 1; at the end it stands nowhere.
-use Rattle.std.proofs.Common.{◌≡◌, arith, eq-eqb}
-use borrow.Author.Tests.{ne_eqb}
-use Rattle.spans.proofs.Spans.{found_here, found_behind, found_none}
+-- `spans::find` meets its contract: the search goes over the span.
+use Rattle.std.proofs.Common.{◌≡◌, ◌-◌, eqb, length, Some, None, sym, ◌∙◌, arith}
+use Rattle.std.proofs.Math.ListN.{length-take, length-drop}
+use Rattle.std.specs.List.{position}
+use Rattle.spans.specs.Span.{slice}
+use Rattle.spans.proofs.Spans.{found, found_none}
 use Rattle.spans.proofs.find.Goals as goal
 
-pub returns-then-s-i : goal.returns-then-s-i
-returns-then-s-i c =
+pub returns-in-Some : goal.returns-in-Some
+unfolding slice
+returns-in-Some c =
     let a = c.args in
-    let here = found_here a.mark c.loop-i.i a.end a.s.now c.loop-i-test.true c.requires.1 (eq-eqb _ _ c.if-s-i.true) in
-    (omega (arith, here), omega arith)
+    let span = slice a.start a.end a.s.now in
+    let at = c.in-Some.at in
+    let is : position (λ x. eqb x a.mark) span ≡ Some at = sym c.first.ensures ∙ c.in-Some.is in
+    let long : length span ≡ a.end - a.start = simp (length-take, length-drop) (omega arith) in
+    let (first, inside) = found a.mark span at is in
+    (omega (arith, first), omega (arith, inside, long))
 
-pub loop-i-preserved : goal.loop-i-preserved
-loop-i-preserved c =
+pub returns-in-None : goal.returns-in-None
+unfolding slice
+returns-in-None c =
     let a = c.args in
-    let behind = found_behind a.mark c.loop-i.i a.end a.s.now c.loop-i-test.true c.requires.1 (ne_eqb _ _ c.if-s-i.false) in
-    (omega arith, omega (arith, behind, c.loop-i.invariant.1))
-
-pub returns : goal.returns
-returns c =
-    let a = c.args in
-    let at_end : c.loop-i.i ≡ a.end = omega arith in
-    let all = rw at_end at c.loop-i.invariant.1 in
-    (omega (arith, all, found_none a.mark a.end a.s.now), omega arith)
+    let span = slice a.start a.end a.s.now in
+    let is : position (λ x. eqb x a.mark) span ≡ None = sym c.first.ensures ∙ c.in-None.is in
+    let long : length span ≡ a.end - a.start = simp (length-take, length-drop) (omega arith) in
+    (omega (arith, found_none a.mark span is, long), omega arith)

@@ -1,53 +1,36 @@
--- A line's words beside a form's words, and a line beside forms, one more at a time.
-use mathlib.Core.Path.{◌≡◌, refl, ◌∙◌}
-use mathlib.Core.Bool.{true, false, cond}
-use mathlib.Core.Logic.{⊎_elim}
-use mathlib.Core.List.{List, []}
-use Prim.Native.Nat.{ℕ, ◌+◌, ◌≤◌, ◌<◌}
-use native.Mathlib.Numerals.{add-one}
-use lib.Dec.{ltb}
-use lib.ListN.{length}
-use borrow.Author.Tests.{ltb-true, ltb-false}
-use Rattle.board.proofs.Lists.{way}
-use Rattle.words.specs.Parts.{parts, part}
-use Rattle.words.specs.Forms.{word_fit, lack_fit, is_fit, form_fit, chosen, first_form}
-use Rattle.words.specs.Inner.{rest, parts_from}
-use Rattle.words.specs.declared.command.Why.TheVariants.{Unknown, Words}
-use Rattle.words.specs.declared.forms.Fit.{Fit}
-use Rattle.words.specs.declared.forms.Fit.TheVariants.{Fits, Wrong}
-use Rattle.words.specs.declared.forms.Form.{Form}
-use Rattle.words.specs.declared.forms.Form.TheVariants.{None}
-use Rattle.words.proofs.Laws.Parts.{of_parts_from, from_past, part_here}
+-- A line's words beside a form's words, one more at a time.
+use Rattle.std.proofs.Common.{◌≡◌, refl, ◌∙◌, Bool, true, false, Some, sym, ne_eqb, Result, Ok, Err, List, [], ◌∷◌, ℕ}
+use Rattle.std.specs.Bool.{then_some}
+use Rattle.std.specs.Str.{bytes_eq}
+use Rattle.std.specs.Option.{ok_or}
+use Rattle.words.specs.Forms.{fits, letter_of, word_fit, lack_fit, both_fit, form_fit}
+use Rattle.words.specs.declared.command.Why.{Why}
+use Rattle.words.specs.declared.command.Why.TheVariants.{Words}
 
--- all is fit: the form and the line, from f and from at on
-module _ (form line : List ℕ) (f at : ℕ) (all : Fit) (before : all ≡ form_fit (parts_from 32 f form) (parts_from 32 at line)) where
-  module _ (asked : List ℕ) (more : f ≤ length form) (asks : asked ≡ part (parts_from 32 f form) 0) where
-    pub fit_lack : length line < at → all ≡ lack_fit asked
-    unfolding form_fit
-    fit_lack l = before ∙ rw (part_here 32 f form asked more asks, from_past 32 at line l)
+-- a test that passes, or why not
+pub fits_is : (test : Bool) (why : Why) → ok_or (then_some test true) why ≡ fits test why
+fits_is true why = refl
+fits_is false why = refl
 
-    pub fit_next : (word : List ℕ) (one : Fit) → at ≤ length line → word ≡ part (parts_from 32 at line) 0 → one ≡ word_fit asked word
-        → all ≡ cond (is_fit one) (form_fit (rest (parts_from 32 f form)) (rest (parts_from 32 at line))) one
-    unfolding form_fit
-    fit_next word one l has is = before ∙ rw (is, part_here 32 f form asked more asks, part_here 32 at line word l has)
+-- a letter that asks for nothing is a word as any other
+pub other_letter : (asked w : List ℕ) (x : ℕ) → Some x ≡ letter_of asked → (((Unit {0} × (x ≡ 78 → ⊥)) × (x ≡ 70 → ⊥)) × (x ≡ 72 → ⊥)) × (x ≡ 80 → ⊥) → word_fit asked w ≡ Ok (bytes_eq asked w)
+unfolding word_fit
+other_letter asked w x is ((((u, n), f), h), p) = rw (sym is, ne_eqb x 78 n, ne_eqb x 70 f, ne_eqb x 72 h, ne_eqb x 80 p)
 
-  pub fit_end : length form < f → cond (ltb (length line) at) Fits (Wrong Words) ≡ all
+-- all is how what is left of a form and of a line fit
+module _ (all : Result Bool Why) (form line : List (List ℕ)) (before : all ≡ form_fit form line) where
+  pub fit_lack : (a : List ℕ) (more : List (List ℕ)) → form ≡ a ∷ more → line ≡ [] → all ≡ lack_fit a
   unfolding form_fit
-  fit_end l =
-      ⊎_elim
-      (λ (e : ltb (length line) at ≡ true). rw (e, before, from_past 32 f form l, from_past 32 at line (ltb-true _ _ e)))
-      (λ (e : ltb (length line) at ≡ false).
-      rw (e, before, from_past 32 f form l)
-      (of_parts_from (λ ws. Wrong Words ≡ form_fit [] ws) (λ w ws. refl) 32 at line (ltb-false _ _ e)))
-      (way (ltb (length line) at))
+  fit_lack a more e none = before ∙ rw (e, none)
 
--- the form found is found among the forms from at on, counted from k
-module _ (forms : List ℕ) (ws : List (List ℕ)) (k at : ℕ) (found : Form) (before : found ≡ first_form k (parts_from 10 at forms) ws) where
-  pub form_next : (form : List ℕ) (one : Fit) → at ≤ length forms → form ≡ part (parts_from 10 at forms) 0 → one ≡ form_fit (parts 32 form) ws
-      → found ≡ chosen one k (first_form (k + 1) (rest (parts_from 10 at forms)) ws)
-  unfolding first_form
-  form_next form one more has is = before ∙ rw (is, add-one, part_here 10 at forms form more has)
+  pub fit_next : (a w : List ℕ) (more ws : List (List ℕ)) → form ≡ a ∷ more → line ≡ w ∷ ws → all ≡ both_fit (word_fit a w) (form_fit more ws)
+  unfolding form_fit
+  fit_next a w more ws e is = before ∙ rw (e, is)
 
-  pub form_none : length forms < at → None Unknown ≡ found
-  unfolding first_form
-  form_none l = rw (before, from_past 10 at forms l)
+  pub fit_end : form ≡ [] → line ≡ [] → all ≡ Ok true
+  unfolding form_fit
+  fit_end e none = before ∙ rw (e, none)
+
+  pub fit_more : (w : List ℕ) (ws : List (List ℕ)) → form ≡ [] → line ≡ w ∷ ws → all ≡ Err Words
+  unfolding form_fit
+  fit_more w ws e is = before ∙ rw (e, is)

@@ -1,17 +1,15 @@
--- The number of digits, one digit more at a time.
-use mathlib.Core.Path.{◌≡◌, refl, ◌∙◌}
-use mathlib.Core.Bool.{true, false}
-use mathlib.Core.List.{List, [], ◌∷◌}
-use Prim.Native.Nat.{ℕ, suc, ◌+◌, ◌*◌, ◌-◌, ◌^◌, ◌≤◌, ◌<◌}
+-- The number of digits, one digit more at a time, and what a word is read as.
+use Rattle.std.proofs.Common.{◌≡◌, refl, ◌∙◌, Bool, true, false, ◌&&◌, Option, Some, None, List, [], ◌∷◌, ℕ, suc, ◌+◌, ◌*◌, ◌-◌, ◌^◌, ◌≤◌, ◌<◌, length, get_or, drop, drop-cons, add-one, arith, Bor, MatchOption, option_and_then}
+use Rattle.std.specs.Option.{option_map}
+use Rattle.std.specs.Char.{is_ascii_digit}
 use native.Mathlib.Nat.{le_refl, le_trans}
-use native.Mathlib.Numerals.{add-one}
-use native.Mathlib.Omega.{arith}
-use lib.ListN.{length, get_or, drop}
-use lib.Seq.{drop-cons, drop-length}
-use borrow.Author.Tests.{lt-ltb, le-ltb}
-use Rattle.words.specs.Number.{is_all, value_from, value_of, no_number, number_of, number_at}
-use Rattle.words.specs.Inner.{rest, parts_from, Next}
-use Rattle.words.specs.declared.sorts.Sort.TheVariants.{Digit}
+use lib.Seq.{drop-length}
+use borrow.Author.Tests.{le-ltb, lt-ltb}
+use Rattle.words.specs.Number.{value_from, numeral, number_of}
+
+and_false : (t : Bool) → (t && false) ≡ false
+and_false true = refl
+and_false false = refl
 
 -- more digits make a number no smaller
 value_grows : (xs : List ℕ) (v : ℕ) → v ≤ value_from v xs
@@ -19,34 +17,28 @@ unfolding value_from
 value_grows [] v = le_refl v
 value_grows (x ∷ xs) v = let more : v ≤ 10 * v + (x - 48) = omega arith in le_trans more (value_grows xs (10 * v + (x - 48)))
 
-module _ (w : List ℕ) where
-  pub no_digits : is_all Digit w ≡ false → no_number ≡ number_of w
-  unfolding number_of
-  no_digits e = rw e
+-- all is what the digits from i on are read as
+module _ (w : List ℕ) (i v : ℕ) (all : Option ℕ) (room : i < length w) (before : all ≡ numeral v (drop i w)) where
+  pub digit_more : is_ascii_digit (get_or w i 0) ≡ true → all ≡ numeral (10 * v + (get_or w i 0 - 48)) (drop (i + 1) w)
+  unfolding value_from
+  digit_more q = before ∙ rw (add-one, drop-cons w i 0 room, q)
 
-  module _ (i v : ℕ) (before : value_of w ≡ value_from v (drop i w)) where
-    module _ (d : ℕ) (room : i < length w) (digit : d ≡ get_or w i 0 - 48) where
-      pub value_more : value_of w ≡ value_from (10 * v + d) (drop (i + 1) w)
-      unfolding value_from
-      value_more = before ∙ rw (add-one, drop-cons w i 0 room, digit)
+  pub digit_not : is_ascii_digit (get_or w i 0) ≡ false → all ≡ None
+  digit_not q = before ∙ rw (drop-cons w i 0 room, q)
 
-      pub too_wide : is_all Digit w ≡ true → 2 ^ 64 ≤ 10 * v + d → no_number ≡ number_of w
-      unfolding number_of
-      too_wide all wide =
-          let whole : 2 ^ 64 ≤ value_of w = rw value_more (le_trans wide (value_grows (drop (i + 1) w) (10 * v + d))) in
-          rw (all, le-ltb (value_of w) (2 ^ 64) whole)
+  pub digit_wide : 2 ^ 64 ≤ 10 * v + (get_or w i 0 - 48) → all ≡ None
+  unfolding value_from
+  digit_wide wide =
+      let whole : 2 ^ 64 ≤ value_from v (drop i w) = rw (drop-cons w i 0 room) (le_trans wide (value_grows (drop (suc i) w) (10 * v + (get_or w i 0 - 48)))) in
+      before ∙ rw (le-ltb (value_from v (drop i w)) (2 ^ 64) whole) (rw and_false)
 
-    pub value_end : is_all Digit w ≡ true → i ≡ length w → v < 2 ^ 64 → record { is = true; value = v } ≡ number_of w
-    unfolding number_of value_from
-    value_end all end fits =
-        let is : value_of w ≡ v = before ∙ rw (end, drop-length) in
-        let whole : value_of w < 2 ^ 64 = rw is fits in
-        rw (all, lt-ltb (value_of w) (2 ^ 64) whole) (cc)
+-- all is what no digits behind those that came to v are read as
+pub no_more : (w : List ℕ) (i v : ℕ) (all : Option ℕ) → i ≡ length w → all ≡ numeral v (drop i w) → v < 2 ^ 64 → all ≡ Some v
+unfolding value_from
+no_more w i v all end before fits = before ∙ rw (end, drop-length, lt-ltb v (2 ^ 64) fits)
 
--- the number of a part from the next on, among those from a place on
-pub number_behind : {mark : ℕ} {s : List ℕ} {at r : ℕ} (i : ℕ) → Next mark s at r → number_at (parts_from mark r s) i ≡ number_at (parts_from mark at s) (suc i)
-number_behind {mark} {s} {at} i next = rw next.is (go (parts_from mark at s))
-  where
-    go : (ps : List (List ℕ)) → number_at (rest ps) i ≡ number_at ps (suc i)
-    go [] = refl
-    go (p ∷ ps) = refl
+-- what a word is read as, where there is one
+pub number_of_word : (word : Option (Bor (List ℕ))) (got : Option (List ℕ)) (r : Option ℕ) → option_map (λ x. x.now) word ≡ got
+    → MatchOption word (r ≡ None) (λ x. r ≡ number_of x.now) → r ≡ option_and_then number_of got
+number_of_word None got r is e = rw (← is) e
+number_of_word (Some x) got r is e = rw (← is) e

@@ -9,12 +9,13 @@ use Rattle.alter.proofs.renew.rework.Goals as goal
 pub put_record-requires : goal.put_record-requires
 put_record-requires c = puts c.requires.0
 
+-- the board after is accepted too, with the same counts
+pub invariant_of-after : goal.invariant_of-after
+invariant_of-after c = record { known = known_after c.requires.0 _ c.put_record.ensures }
+
 pub mark_met_after-requires : goal.mark_met_after-requires
 mark_met_after-requires c =
-    let asked = c.requires.0 in (
-      known_after asked _ c.put_record.ensures,
-      marked_or_none asked _ c.put_record.ensures c.args.marks.now c.requires.2 c.requires.1 c.mark_met.new.row c.mark_met.ensures,
-    )
+    marked_or_none c.requires.0 _ c.put_record.ensures c.args.marks.now c.requires.2 c.requires.1 c.mark_met.new.row c.mark_met.ensures
 
 pub renew-on_lines-requires : goal.renew-on_lines-requires
 renew-on_lines-requires c = renews_after c.requires.0 _ c.put_record.ensures Lines

@@ -1,10 +1,7 @@
 -- The bytes that were looked at are the number that they came to.
-use Rattle.std.proofs.Common.{◌-◌, ◌≤◌, length}
+use Rattle.std.proofs.Common.{◌≡◌}
 use Rattle.drawing.proofs.Laws.Reading.{Sofar}
 use Rattle.drawing.proofs.number.read_number.Given as goal
 
-abbrev pub invariant-loop-i : goal.invariant-loop-i
-invariant-loop-i l = record { inside : l.i ≤ length l.rest; so : Sofar l.rest l.value l.i }
-
-abbrev pub decreases-loop-i : goal.decreases-loop-i
-decreases-loop-i l = length l.rest - l.i
+abbrev pub invariant-loop-x : goal.invariant-loop-x
+invariant-loop-x l = record { here : l.length ≡ l.x-index; so : Sofar l.rest l.value l.length }

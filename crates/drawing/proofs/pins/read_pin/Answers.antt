@@ -1,30 +1,45 @@
 -- `drawing::pins::read_pin` meets its contract: a number, and then one of the two pieces.
-use Rattle.std.proofs.Common.{◌≡◌, arith}
-use Rattle.drawing.specs.Inner.{Leads, pins_to}
+use Rattle.std.proofs.Common.{◌≡◌, ◌+◌, Err, Ok, arith, rules}
+use Rattle.drawing.specs.declared.stop.Stop.{Stop}
+use Rattle.drawing.specs.Inner.{pins_to}
 use Rattle.drawing.proofs.Laws.Pins.{pins_to_lem, pin_none, pin_stops, pin_on, pin_is}
 use Rattle.drawing.proofs.pins.read_pin.Goals as goal
 
-pub returns-then-at-eq0 : goal.returns-then-at-eq0
-returns-then-at-eq0 c = pin_none c.args.rest.now c.args.left c.read_number-number.result c.requires c.read_number-number.ensures c.if-at-eq0.true
+pub returns-in_default : goal.returns-in_default
+returns-in_default c = pin_none c.args.rest.now c.args.left c.requires c.in_default.ensures
 
-pub returns-in-Stop : goal.returns-in-Stop
-returns-in-Stop c =
-    let rest = c.args.rest.now in
-    let n = c.read_number-number.result in
-    let leads : Leads rest n = c.read_number-number.ensures.1 (omega arith) in
-    pin_stops rest c.args.left n c.in-Stop.m c.requires leads (rw (c.tail.ensures, c.pieces_to.ensures) at c.in-Stop.ensures)
-
-pub returns-else-which-eq3 : goal.returns-else-which-eq3
-returns-else-which-eq3 c =
+pub returns-in_err-took : goal.returns-in_err-took
+returns-in_err-took c =
     let rest = c.args.rest.now in
     let left = c.args.left in
-    let n = c.read_number-number.result in
-    let w = c.in-Took in
-    let leads : Leads rest n = c.read_number-number.ensures.1 (omega arith) in
-    let took = rw (c.tail.ensures, c.pieces_to.ensures) at w.ensures in
-    let (inside, is) = pin_is rest n (pins_to left) w.which w.length leads took in
+    let n = c.in-Some.number in
+    let (s, was, is) : (s : Stop) × (c.choose.result ≡ Err s) × (c.from_residual.result ≡ Err (record { along = n.length + s.along })) = search rules in
+    rw is (pin_stops rest left n s.along c.requires c.in-Some.ensures (rw (c.tail.ensures, was) at (c.choose.ensures 3 (pins_to left) c.behind_pin.ensures)))
+
+pub returns-then-took-eq0 : goal.returns-then-took-eq0
+returns-then-took-eq0 c =
+    let rest = c.args.rest.now in
+    let left = c.args.left in
+    let n = c.in-Some.number in
+    let w = c.in_ok-took.took in
+    let was : c.choose.result ≡ Ok w = search rules in
+    let took = rw (c.tail.ensures, was) at (c.choose.ensures 3 (pins_to left) c.behind_pin.ensures) in
+    let (inside, is) = pin_is rest n (pins_to left) (3 + w.which) w.length c.in-Some.ensures took in
+    let last : 3 + w.which ≡ 3 = omega arith in
+    (c.in-Some.ensures.few, inside, rw last at is)
+
+pub returns : goal.returns
+returns c =
+    let rest = c.args.rest.now in
+    let left = c.args.left in
+    let n = c.in-Some.number in
+    let w = c.in_ok-took.took in
+    let was : c.choose.result ≡ Ok w = search rules in
+    let leads = c.in-Some.ensures in
+    let took = rw (c.tail.ensures, was) at (c.choose.ensures 3 (pins_to left) c.behind_pin.ensures) in
+    let (inside, is) = pin_is rest n (pins_to left) (3 + w.which) w.length leads took in
     let (low, high, two) = pins_to_lem left in
-    let next : w.which ≡ 4 = let least = took.0 in let most = took.1 in omega arith in
+    let next : 3 + w.which ≡ 4 = let most = took.1 in let other = c.if-took-eq0.false in omega arith in
     let more = two (rw next at took.1) in
     record {
       few = leads.few;

@@ -1,13 +1,34 @@
--- `drawing::stored::put_record` meets its contract: a record is five numbers of two bytes.
-use Rattle.std.proofs.Common.{List, ℕ, ◌++◌, take, ap, ◌∙◌, arith}
+-- `drawing::stored::put_record` meets its contract: a kind, a count, and four numbers of two bytes.
+use Rattle.std.proofs.Common.{◌≡◌, [], ◌∷◌, take, length, ◌∙◌, sym, append_assoc, append-nil, arith, rules}
+use Rattle.std.proofs.Math.Seq.{take_all}
+use Rattle.text.specs.Text.{each}
 use Rattle.drawing.specs.Image.{word_bytes}
-use Rattle.drawing.proofs.Laws.Stored.{five-words}
+use Rattle.drawing.proofs.Laws.Stored.{each-take}
 use Rattle.drawing.proofs.stored.put_record.Goals as goal
+
+pub loop-pin-init : goal.loop-pin-init
+unfolding each
+loop-pin-init c = record { end = omega arith; long = c.put-end.auto.out; put = c.put-end.ensures.1 ∙ sym (append-nil _) }
+
+pub put_word-end-requires : goal.put_word-end-requires
+put_word-end-requires c = let small = c.requires.2 c.loop-pin.pin-index in (small, omega arith)
+
+pub loop-pin-preserved : goal.loop-pin-preserved
+loop-pin-preserved c =
+    let l = c.loop-pin in
+    let pins = c.args.pins in
+    let four : length pins ≡ 4 = search rules in
+    let put = c.put_word-end in
+    record {
+      end = omega arith;
+      long = put.auto.out ∙ l.invariant.long;
+      put = rw (each-take pins l.pin-index (omega arith), ← append_assoc) (rw l.invariant.put at put.ensures.1);
+    }
 
 pub returns : goal.returns
 returns c =
-    let a = c.args in (
-      omega arith,
-      (c.put_word.ensures.1 ∙ ap (λ (z : List ℕ). z ++ word_bytes a.pins.fourth) (c.put_word-d.ensures.1 ∙ ap (λ (z : List ℕ). z ++ word_bytes a.pins.third) (c.put_word-c.ensures.1 ∙ ap (λ (z : List ℕ). z ++ word_bytes a.pins.second) (c.put_word-b.ensures.1 ∙ ap (λ (z : List ℕ). z ++ word_bytes a.pins.first) c.put_word-a.ensures.1))))
-          ∙ five-words (take a.at a.out.now) a.kind a.count a.pins c.requires.0,
-    )
+    let l = c.loop-pin in
+    let a = c.args in
+    let four : length a.pins ≡ 4 = search rules in
+    let all : take l.pin-index a.pins ≡ a.pins = take_all l.pin-index a.pins (omega arith) in
+    (omega arith, rw all at l.invariant.put ∙ append_assoc (take a.at a.out.now) (a.kind ∷ a.count ∷ []) (each word_bytes a.pins))

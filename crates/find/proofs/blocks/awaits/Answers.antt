@@ -11,4 +11,4 @@ returns-then-e-ne-NONE c = λ off m n over. settled _ m n c.args.e over c.if-e-n
 pub returns : goal.returns
 returns c =
     λ off m n over is.
-    is ∙ absent-same (board_of c.args.img.now) c.args.condition (sym c.is_absent.ensures ∙ not-false _ off) m n over
+    is ∙ absent-same (board_of c.args.trial.img.now) c.args.condition (sym c.is_absent.ensures ∙ not-false _ off) m n over

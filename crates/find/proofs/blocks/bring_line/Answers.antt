@@ -5,12 +5,4 @@ use Rattle.find.proofs.blocks.bring_line.Goals as goal
 pub returns-then-is_idle : goal.returns-then-is_idle
 returns-then-is_idle c =
     let span = c.requires.span in
-    (c.is_idle.ensures c.if-is_idle.true c.args.end (le_of_lt span.some_left) span.few, c.requires.tryable.block)
-
-pub note_all-requires : goal.note_all-requires
-note_all-requires c =
-    let asked = c.requires.tryable in (
-      record { decoded = asked.decoded; block = c.flip-seen.ensures.1; part = asked.part },
-      c.requires.span,
-      λ k l. rw (c.requires.of_line k l) c.flip-seen.ensures.0,
-    )
+    (c.is_idle.ensures c.if-is_idle.true c.args.trial.end (le_of_lt span.some_left) span.few, c.requires.tryable.block)

@@ -1,12 +1,9 @@
 -- None of the first k entries is awaited.
-use Rattle.std.proofs.Common.{ℕ, ◌-◌, ◌<◌, ◌≤◌, length, get_or}
+use Rattle.std.proofs.Common.{ℕ, ◌<◌, ◌≤◌, get_or}
 use Rattle.image.specs.Image.{board_of}
 use Rattle.find.specs.Inner.{Goes, test_of}
 use Rattle.find.proofs.blocks.is_to_do.Given as goal
 
 abbrev pub invariant-loop-k : goal.invariant-loop-k
 invariant-loop-k l =
-    (j : ℕ) → j < l.k → (m n : ℕ) → m ≤ n → Goes (test_of l.sort l.first (board_of l.img) j) m n (get_or l.part j 0) (get_or l.part j 0)
-
-abbrev pub decreases-loop-k : goal.decreases-loop-k
-decreases-loop-k l = length l.part - l.k
+    (j : ℕ) → j < l.k → (m n : ℕ) → m ≤ n → Goes (test_of l.at (board_of l.trial.img.now) j) m n (get_or l.part j 0) (get_or l.part j 0)

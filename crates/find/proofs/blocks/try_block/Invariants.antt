@@ -7,7 +7,7 @@ use Rattle.find.proofs.blocks.try_block.Given as goal
 
 abbrev pub invariant-loop-k : goal.invariant-loop-k
 invariant-loop-k l =
-    Trying l.sort l.first (board_of l.img) l.base l.end l.fn.todo l.fn.part l.any l.k l.todo l.part × Block (board_of l.img) l.base l.rows × (length l.changed ≡ length l.fn.changed)
+    Trying l.at (board_of l.trial.img.now) l.trial.base l.trial.end l.fn.todo l.fn.part l.any l.k l.todo l.part × Block (board_of l.trial.img.now) l.trial.base l.rows × (length l.changed ≡ length l.fn.changed)
 
 abbrev pub decreases-loop-k : goal.decreases-loop-k
 decreases-loop-k l = length l.fn.part - l.k

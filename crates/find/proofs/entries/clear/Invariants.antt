@@ -1,5 +1,5 @@
 -- The first k entries are none where their lines are marked, and the rest are as they were.
-use Rattle.std.proofs.Common.{◌≡◌, cond, ◌-◌, length, get_or}
+use Rattle.std.proofs.Common.{◌≡◌, cond, get_or}
 use Rattle.board.specs.Lists.{on}
 use Rattle.board.specs.Limits.{none_mark}
 use Rattle.board.specs.Gate.{site}
@@ -10,6 +10,3 @@ use Rattle.find.proofs.entries.clear.Given as goal
 abbrev pub invariant-loop-k : goal.invariant-loop-k
 invariant-loop-k l =
     Storing (λ j e. e ≡ cond (on (get_or l.marks (site (fault_at l.sort j)) 0)) none_mark (get_or l.initial.book j 0)) l.initial.book l.k l.book
-
-abbrev pub decreases-loop-k : goal.decreases-loop-k
-decreases-loop-k l = length l.initial.book - l.k

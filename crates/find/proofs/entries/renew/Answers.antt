@@ -7,4 +7,4 @@ pub returns : goal.returns
 returns c =
     let a = c.args in
     rw c.count_found.ensures
-    (none_reworked a.sort a.img.now a.marks.now a.book.now (sym c.has_mark.ensures ∙ c.if-has_mark.false))
+    (none_reworked a.sort a.board.img.now a.marks.now a.book.now (sym c.has_mark.ensures ∙ c.if-has_mark.false))

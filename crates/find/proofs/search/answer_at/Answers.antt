@@ -1,5 +1,7 @@
 -- A part of one entry is worked out, and the entry stands for the answer.
-use Rattle.std.proofs.Common.{refl, arith}
+use Rattle.std.proofs.Common.{ℕ, refl, arith}
+use Rattle.std.proofs.Math.ListN.{get_or-replicate}
+use Rattle.board.specs.Limits.{most_lines}
 use Rattle.board.specs.Gate.{site}
 use Rattle.board.specs.Book.{fault_at}
 use Rattle.image.specs.Image.{board_of}
@@ -8,18 +10,18 @@ use Rattle.find.proofs.Laws.Book.{none_found, one_found, one-part, searched_one}
 use Rattle.find.proofs.search.answer_at.Goals as goal
 
 pub try_all-requires : goal.try_all-requires
-try_all-requires c = (c.requires.0, one-part c.args.sort c.args.img.now c.args.k c.requires.0.ok c.requires.1)
+try_all-requires c = one-part c.args.at.sort c.args.board.img.now c.args.at.first c.args.board.known.ok c.requires
 
 pub returns-then-e : goal.returns-then-e
 returns-then-e c =
-    let s = c.args.img.now in
-    let marked = c.every_line-every.ensures.1 (site (fault_at c.args.sort c.args.k)) (omega (arith, c.requires.1.inside, lines_few s c.requires.0.ok)) in
-    none_found (board_of s) (accepted_fine s c.requires.0.ok) _ _
-    (searched_one c.args.sort (board_of s) c.args.k _ _ _ c.try_all.ensures (omega arith) refl (rw marked)) c.if-e.true
+    let s = c.args.board.img.now in
+    let marked = get_or-replicate {A = ℕ} most_lines (site (fault_at c.args.at.sort c.args.at.first)) 1 0 (omega (arith, c.requires.inside, lines_few s c.args.board.known.ok)) in
+    none_found (board_of s) (accepted_fine s c.args.board.known.ok) _ _
+    (searched_one c.args.at.sort (board_of s) c.args.at.first _ _ _ c.try_all.ensures (omega arith) refl (rw marked)) c.if-e.true
 
 pub returns-else-e : goal.returns-else-e
 returns-else-e c =
-    let s = c.args.img.now in
-    let marked = c.every_line-every.ensures.1 (site (fault_at c.args.sort c.args.k)) (omega (arith, c.requires.1.inside, lines_few s c.requires.0.ok)) in
-    one_found (board_of s) (accepted_fine s c.requires.0.ok) _ _
-    (searched_one c.args.sort (board_of s) c.args.k _ _ _ c.try_all.ensures (omega arith) refl (rw marked)) c.if-e.false
+    let s = c.args.board.img.now in
+    let marked = get_or-replicate {A = ℕ} most_lines (site (fault_at c.args.at.sort c.args.at.first)) 1 0 (omega (arith, c.requires.inside, lines_few s c.args.board.known.ok)) in
+    one_found (board_of s) (accepted_fine s c.args.board.known.ok) _ _
+    (searched_one c.args.at.sort (board_of s) c.args.at.first _ _ _ c.try_all.ensures (omega arith) refl (rw marked)) c.if-e.false

@@ -1,57 +1,36 @@
 -- It ends when all patterns are tried or no line is to do.
-use Rattle.std.proofs.Common.{◌≡◌, refl, ◌∙◌, ◌+◌, ◌<◌, arith, rules}
-use Rattle.std.proofs.Math.Nat.{le_of_lt}
-use Rattle.find.proofs.Laws.Parts.{tried_start, tried_on, all_searched, none_left}
+use Rattle.std.proofs.Common.{length, ◌≡◌, ◌∙◌, ◌*◌, ◌+◌, ◌≤◌, min, arith}
+use Rattle.image.specs.Image.{board_of}
+use Rattle.find.specs.Inner.{Tried}
+use Rattle.find.proofs.Laws.Parts.{tried_on, all_searched, none_left}
 use Rattle.find.proofs.search.search.Goals as goal
+use Rattle.find.proofs.search.search.Goals.{After-try_block}
 
-pub loop-base-init : goal.loop-base-init
-loop-base-init c = (search rules, λ l. (0, refl), tried_start _ _ _ _ _, c.requires.room, refl)
+-- the patterns before a block are tried, and those in it then too
+module _ (c : After-try_block) where
+  before : min c.args.limit (512 * c.loop-block.block) ≡ 512 * c.loop-block.block
+  before = omega (arith, c.div_ceil-block-end.ensures, c.loop-block-test.true)
 
-pub try_block-requires : goal.try_block-requires
-try_block-requires c =
-    let (within, whole, tried, room, same) = c.loop-base.invariant in
-    let (number, is) = whole c.loop-base-test.true in
-    record {
-      decoded = c.requires.decoded;
-      room = room;
-      number = number;
-      base_is = is;
-      span = record {
-        some_left = c.smaller-end.ensures.3 _ (omega arith) c.loop-base-test.true;
-        few = c.smaller-end.ensures.0;
-        bounded = omega (arith, c.smaller-end.ensures.1, c.requires.bounded);
-      };
-      changes = same ∙ c.requires.changes;
-      wide = omega (arith, c.requires.wide, tried.wide);
-      part = rw tried.long c.requires.part;
-    }
+  left : 512 * c.loop-block.block ≤ c.min-end.result
+  left = omega (arith, c.div_ceil-block-end.ensures, c.loop-block-test.true, c.min-end.ensures)
+
+  tried : Tried c.args.at (board_of c.args.img.now) 0 c.min-end.result (length c.args.part.now) c.args.todo.now c.args.part.now c.try_block.new.todo c.try_block.new.part
+  tried = tried_on _ _ _ _ _ _ _ _ _ _ left (rw before at c.loop-block.invariant.0) c.try_block.ensures.tried
 
 pub returns-then-not-try_block : goal.returns-then-not-try_block
 returns-then-not-try_block c =
-    let left : c.loop-base.base < c.smaller-end.result = c.smaller-end.ensures.3 _ (omega arith) c.loop-base-test.true in
-    let tried = c.loop-base.invariant.2 in
-    none_left _ _ _ _ _ _ _ _ _ (tried_on _ _ _ _ _ _ _ _ _ _ _ (le_of_lt left) tried c.try_block.ensures.tried) c.smaller-end.ensures.1
-    (λ k l. c.try_block.ensures.answer (c.if-not-try_block.true) k (omega (arith, l, tried.long)))
+    let few : c.min-end.result ≤ c.args.limit = omega (arith, c.min-end.ensures) in
+    let part = c.loop-block.invariant.0 in
+    none_left _ _ _ _ _ _ _ _ (tried (goal.at.returns-then-not-try_block c).After-try_block) few
+    (λ k l. c.try_block.ensures.answer c.if-not-try_block.true k (omega (arith, l, part.long)))
 
-pub loop-base-smaller : goal.loop-base-smaller
-loop-base-smaller c =
-    let left : c.loop-base.base < c.smaller-end.result = c.smaller-end.ensures.3 _ (omega arith) c.loop-base-test.true in
-    omega (arith, left, c.smaller-end.ensures.1)
-
-pub loop-base-preserved : goal.loop-base-preserved
-loop-base-preserved c =
-    let left : c.loop-base.base < c.smaller-end.result = c.smaller-end.ensures.3 _ (omega arith) c.loop-base-test.true in
-    let (within, whole, tried, room, same) = c.loop-base.invariant in
-    let (number, is) = whole c.loop-base-test.true in (
-      c.smaller-end.ensures.1,
-      λ l. (number + 1, omega (arith, c.smaller-end.ensures.2 l, is)),
-      tried_on _ _ _ _ _ _ _ _ _ _ _ (le_of_lt left) tried c.try_block.ensures.tried,
-      c.try_block.ensures.room,
-      c.try_block.auto.changed ∙ same,
-    )
+pub loop-block-preserved : goal.loop-block-preserved
+loop-block-preserved c =
+    let block = c.loop-block.block in
+    let next : c.min-end.result ≡ min c.args.limit (512 * (block + 1)) = omega (arith, c.min-end.ensures) in
+    (rw next at (tried (goal.at.loop-block-preserved c).After-try_block), c.try_block.ensures.room, c.try_block.auto.changed ∙ c.loop-block.invariant.2)
 
 pub returns : goal.returns
 returns c =
-    let (within, whole, tried, room, same) = c.loop-base.invariant in
-    let all : c.loop-base.base ≡ c.args.limit = omega (arith, c.loop-base-test.false) in
-    all_searched _ _ _ _ _ 0 _ _ _ (rw all at tried)
+    let all : min c.args.limit (512 * c.loop-block.block) ≡ c.args.limit = omega (arith, c.div_ceil-block-end.ensures, c.loop-block-test.false) in
+    all_searched _ _ _ _ 0 _ _ _ (rw all at c.loop-block.invariant.0)

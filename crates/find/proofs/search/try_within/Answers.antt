@@ -7,11 +7,11 @@ use Rattle.find.proofs.search.try_within.Goals as goal
 
 pub try_in-requires : goal.try_in-requires
 try_in-requires c =
-    let (known, part, wide) = c.requires in
+    let known = c.args.board.known in
+    let (part, wide) = c.requires in
     let low = known_few known in
     record {
-      known = known;
-      flat_long = length-take-le _ _ (omega arith) ∙ ap (λ (n : ℕ). 8 * n) known.lines_are;
+      flat_long = length-take-le _ _ low ∙ known.lines_are;
       rows_long = length-take-le _ _ wide.rows_long ∙ ap (λ (n : ℕ). 16 * n + 16) known.lines_are;
       changes = length-take-le _ _ low ∙ known.lines_are;
       wide = le_of_eq (sym (length-take-le _ _ wide.todo_long ∙ known.lines_are));
@@ -19,13 +19,13 @@ try_in-requires c =
     }
 
 pub slice_bounds-flat-end : goal.slice_bounds-flat-end
-slice_bounds-flat-end c = omega (arith, known_few c.requires.0)
+slice_bounds-flat-end c = omega (arith, known_few c.args.board.known)
 
 pub slice_bounds-try_in-end : goal.slice_bounds-try_in-end
-slice_bounds-try_in-end c = sym (length-take-le _ _ (omega (arith, known_few c.requires.0)))
+slice_bounds-try_in-end c = sym (length-take-le _ _ (omega (arith, known_few c.args.board.known)))
 
 pub slice_bounds-changed-end : goal.slice_bounds-changed-end
-slice_bounds-changed-end c = known_few c.requires.0
+slice_bounds-changed-end c = known_few c.args.board.known
 
 pub slice_bounds-try_in-end-4 : goal.slice_bounds-try_in-end-4
-slice_bounds-try_in-end-4 c = sym (length-take-le _ _ (known_few c.requires.0))
+slice_bounds-try_in-end-4 c = sym (length-take-le _ _ (known_few c.args.board.known))

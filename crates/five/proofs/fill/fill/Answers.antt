@@ -10,15 +10,13 @@ loop-i-init c = begun _ [] _
 
 pub line_value-v-requires : goal.line_value-v-requires
 line_value-v-requires c =
-    let a = c.args in (
-      c.the_table-table.ensures,
-      record {
-        ok = c.requires.ok;
-        inside = omega (arith, c.requires.long, c.loop-i.invariant.long, c.loop-i-test.true);
-        condition = c.requires.condition;
-        fives = rw (front_built _ c.loop-i.invariant) (row_fives a.condition a.named a.values (board_of a.img.now) c.loop-i.i);
-      },
-    )
+    let a = c.args in
+    record {
+      ok = c.requires.ok;
+      inside = omega (arith, c.requires.long, c.loop-i.invariant.long, c.loop-i-test.true);
+      condition = c.requires.condition;
+      fives = rw (front_built _ c.loop-i.invariant) (row_fives a.condition a.pattern.named a.pattern.values (board_of a.img.now) c.loop-i.i);
+    }
 
 pub loop-i-preserved : goal.loop-i-preserved
 loop-i-preserved c = stored_next _ c.loop-i.invariant _ (omega arith) c.line_value-v.ensures

@@ -18,28 +18,34 @@ pub returns-then-byte-eq0 : goal.returns-then-byte-eq0
 returns-then-byte-eq0 c =
     let a = c.args in
     c.held_line.ensures
-    ∙ ap (held_line hold5 a.condition a.i) c.input_value.ensures
-    ∙ line_input a.condition (partial a.named a.values) a.img.now a.i c.requires.1.inside a.below.now
+    ∙ ap (held_line hold5 a.condition a.i) c.input.ensures
+    ∙ line_input a.condition (partial a.pattern.named a.pattern.values) a.img.now a.i c.requires.inside a.below.now
     (sym (kind (goal.at.returns-then-byte-eq0 c).After-byte) ∙ c.if-byte-eq0.true)
 
-pub gate_value-requires : goal.gate_value-requires
-gate_value-requires c =
+pub invariant_of-gate : goal.invariant_of-gate
+invariant_of-gate c =
     let a = c.args in
-    let asked = c.requires.1 in
+    let asked = c.requires in
     let few : a.i < most_lines = omega (arith, asked.inside, lines_few a.img.now asked.ok) in
     let (known, pins) = record_good a.img.now asked.ok a.i asked.inside in
     let place = c.first_record.ensures.0 in
-    let gate : 0 < c.byte.result = omega (arith, c.if-byte-eq0.false) in (
-      c.requires.0,
-      record { low = omega arith; kind = rw place known; few = rw place pins; condition = asked.condition; fives = asked.fives },
-      rw c.byte.ensures.0 at gate,
-    )
+    let gate : 0 < c.byte.result = omega (arith, c.if-byte-eq0.false) in
+    record {
+      gated = record {
+        low = omega arith;
+        gate = rw c.byte.ensures.0 at gate;
+        kind = rw place known;
+        few = rw place pins;
+        condition = asked.condition;
+        fives = asked.fives;
+      };
+    }
 
 pub returns : goal.returns
 returns c =
     let a = c.args in
     let place = c.first_record.ensures.0 in
     c.held_line-2.ensures
-    ∙ ap (held_line hold5 a.condition a.i) (rw place at c.gate_value.ensures.0)
-    ∙ line_gate a.condition (partial a.named a.values) a.img.now a.i c.requires.1.inside a.below.now
+    ∙ ap (held_line hold5 a.condition a.i) (rw place at c.value.ensures.0)
+    ∙ line_gate a.condition (partial a.pattern.named a.pattern.values) a.img.now a.i c.requires.inside a.below.now
     (λ e. c.if-byte-eq0.false (kind (goal.at.returns c).After-byte ∙ e))

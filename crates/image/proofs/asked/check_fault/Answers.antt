@@ -1,5 +1,6 @@
 -- Two refusals more, tested after those of a line.
 use Rattle.std.proofs.Common.{arith}
+use Rattle.std.proofs.lemmas.Result.{err_from_is_err_and}
 use Rattle.board.specs.Gate.{site, stuck}
 use Rattle.board.specs.declared.Condition.TheVariants.{Having}
 use Rattle.image.specs.Calls.{◌then◌, bad_stuck, no_pin, line_refusals, fault_refusals}
@@ -13,24 +14,25 @@ is_absent-requires c =
     let s = c.args.img.now in
     let φ = Having c.args.fault in
     let named = rw c.site_of.ensures at c.check_line-tested.ensures in
-    let past = rw c.stuck_of.ensures at (c.in-Good.ensures (line_refusals s (site φ)) s named) in
+    let past = rw c.stuck_of.ensures at (c.in_ok-counts.ensures (line_refusals s (site φ)) s named) in
     let inside = (line_accepted s (site φ) (none_both (line_refusals s (site φ)) (bad_stuck (stuck φ)) past.0).0).1 in
     (inside, omega (arith, inside, lines_few s past.1.ok))
 
-pub returns-in-Refused : goal.returns-in-Refused
+pub returns-in_err-counts : goal.returns-in_err-counts
 unfolding fault_refusals
-returns-in-Refused c =
+returns-in_err-counts c =
     let s = c.args.img.now in
     let φ = Having c.args.fault in
     let named = rw c.site_of.ensures at c.check_line-tested.ensures in
-    let past = rw c.stuck_of.ensures at (c.in-Refused.ensures (line_refusals s (site φ)) s named) in
-    after_given (line_refusals s (site φ) then bad_stuck (stuck φ)) (no_pin s c.args.fault) past
+    let past = rw c.stuck_of.ensures at (c.in_err-counts.ensures (line_refusals s (site φ)) s named) in
+    let p = err_from_is_err_and c.from_residual.result c.from_residual.ensures.1 in
+    rw (p.1, p.2) (after_given (line_refusals s (site φ) then bad_stuck (stuck φ)) (no_pin s c.args.fault) past)
 
-pub returns-in-Good : goal.returns-in-Good
+pub returns : goal.returns
 unfolding fault_refusals
-returns-in-Good c =
+returns c =
     let s = c.args.img.now in
     let φ = Having c.args.fault in
     let named = rw c.site_of.ensures at c.check_line-tested.ensures in
-    let past = rw c.stuck_of.ensures at (c.in-Good.ensures (line_refusals s (site φ)) s named) in
+    let past = rw c.stuck_of.ensures at (c.in_ok-counts.ensures (line_refusals s (site φ)) s named) in
     rw c.is_absent.ensures at (c.refused_if.ensures (line_refusals s (site φ) then bad_stuck (stuck φ)) s past)

@@ -1,13 +1,16 @@
 -- One refusal more, tested after those of the image.
+use Rattle.std.proofs.lemmas.Result.{err_from_is_err_and}
 use Rattle.image.specs.Refusals.{image_refusals}
 use Rattle.image.specs.Calls.{no_line, line_refusals}
 use Rattle.image.proofs.Laws.Answer.{after_given}
 use Rattle.image.proofs.asked.check_line.Goals as goal
 
-pub returns-in-Refused : goal.returns-in-Refused
+pub returns-in_err-counts : goal.returns-in_err-counts
 unfolding line_refusals
-returns-in-Refused c = after_given (image_refusals c.args.img.now) (no_line c.args.img.now c.args.line) c.in-Refused.ensures
+returns-in_err-counts c =
+    let p = err_from_is_err_and c.from_residual.result c.from_residual.ensures.1 in
+    rw (p.1, p.2) (after_given (image_refusals c.args.img.now) (no_line c.args.img.now c.args.line) c.in_err-counts.ensures)
 
-pub returns-in-Good : goal.returns-in-Good
+pub returns : goal.returns
 unfolding line_refusals
-returns-in-Good c = rw (← c.in-Good.ensures.1.lines_are) (c.refused_if.ensures (image_refusals c.args.img.now) c.args.img.now c.in-Good.ensures)
+returns c = rw (← c.in_ok-counts.ensures.1.lines_are) (c.refused_if.ensures (image_refusals c.args.img.now) c.args.img.now c.in_ok-counts.ensures)

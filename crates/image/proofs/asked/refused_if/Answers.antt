@@ -5,5 +5,5 @@ use Rattle.image.proofs.asked.refused_if.Goals as goal
 pub returns-then-bad : goal.returns-then-bad
 returns-then-bad c = λ rs s past. next_given rs past.0 _ _ c.if-bad.true
 
-pub returns : goal.returns
-returns c = λ rs s past. (next_skip rs past.0 _ _ c.if-bad.false, past.1)
+pub returns-else-bad : goal.returns-else-bad
+returns-else-bad c = λ rs s past. (next_skip rs past.0 _ _ c.if-bad.false, past.1)

@@ -1,20 +1,13 @@
 -- No field before the present one is bad, and `inputs` lines lead.
-use Rattle.std.proofs.Common.{◌≡◌, ◌+◌, ◌-◌, ◌*◌, ◌≤◌, ◌<◌}
+use Rattle.std.proofs.Common.{◌≡◌, ◌+◌, ◌*◌}
 use Rattle.board.specs.Board.{leading}
 use Rattle.board.proofs.Search.{Below}
 use Rattle.image.specs.Image.{first_record, records}
 use Rattle.image.specs.Refusals.{bad_at}
 use Rattle.image.proofs.records.scan_records.Given as goal
 
-abbrev pub invariant-records : goal.invariant-records
-invariant-records l = (l.line ≤ l.lines) × Below (bad_at l.img) (6 * l.line) × (l.inputs ≡ leading (records l.img (first_record l.img) l.line))
-
-abbrev pub decreases-records : goal.decreases-records
-decreases-records l = l.lines - l.line
+abbrev pub invariant-loop-line : goal.invariant-loop-line
+invariant-loop-line l = Below (bad_at l.img) (6 * l.line) × (l.inputs ≡ leading (records l.img (first_record l.img) l.line))
 
 abbrev pub invariant-loop-field : goal.invariant-loop-field
-invariant-loop-field l =
-    (l.line < l.lines) × (l.field ≤ 6) × Below (bad_at l.img) (6 * l.line + l.field) × (l.inputs ≡ leading (records l.img (first_record l.img) l.line))
-
-abbrev pub decreases-loop-field : goal.decreases-loop-field
-decreases-loop-field l = 6 - l.field
+invariant-loop-field l = Below (bad_at l.img) (6 * l.line + l.field) × (l.inputs ≡ leading (records l.img (first_record l.img) l.line))

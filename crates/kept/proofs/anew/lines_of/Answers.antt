@@ -2,5 +2,5 @@
 use Rattle.image.proofs.Laws.Fine.{known_few}
 use Rattle.kept.proofs.anew.lines_of.Goals as goal
 
-pub returns-in-Good : goal.returns-in-Good
-returns-in-Good c = known_few (rw c.in-Good.is at c.check_image.ensures).1
+pub returns-in-Ok : goal.returns-in-Ok
+returns-in-Ok c = known_few c.in-Ok.ensures.1

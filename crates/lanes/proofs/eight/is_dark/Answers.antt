@@ -4,4 +4,4 @@ use Rattle.lanes.proofs.Laws.Eight.{none_lit}
 use Rattle.lanes.proofs.eight.is_dark.Goals as goal
 
 pub returns : goal.returns
-returns c = λ e. none_lit c.args.e (eqb-true _ 0 e)
+returns c = λ e w l. (none_lit c.args.e 0 (eqb-true _ 0 e)).1 w

@@ -7,8 +7,7 @@ use Rattle.lanes.proofs.fill.input_words.Goals as goal
 use mathlib.Core.Path.{fun_ext}
 
 pub returns-then-i-lt6 : goal.returns-then-i-lt6
-returns-then-i-lt6 c =
-    c.alike.ensures ∙ ap each (fun_ext (λ w. c.low_word.ensures ∙ input_low (c.args.base + 64 * w) c.args.i c.if-i-lt6.true))
+returns-then-i-lt6 c = ap each (fun_ext (λ w. c.low_word.ensures ∙ input_low (c.args.base + 64 * w) c.args.i c.if-i-lt6.true))
 
 pub returns : goal.returns
 returns c =

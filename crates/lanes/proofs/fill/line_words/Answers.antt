@@ -1,30 +1,42 @@
 -- An input's words, or the gate's from the good words of its pins' lines.
-use Rattle.std.proofs.Common.{ℕ, ◌+◌, ◌*◌, get_or, ap, ◌∙◌, arith}
+use Rattle.std.proofs.Common.{ℕ, ◌+◌, ◌*◌, ◌≤◌, ◌<◌, get_or, ap, ◌∙◌, arith}
 use Rattle.board.specs.Row.{value}
 use Rattle.image.specs.Image.{board_of}
 use Rattle.lanes.specs.Words.{words, input_word}
+use Rattle.lanes.specs.Inner.{gate_at}
 use Rattle.lanes.proofs.Laws.Eight.{word_at}
 use Rattle.lanes.proofs.Laws.Fill.{four_pins, pin_low, gate_of, good_input, good-gate}
 use Rattle.lanes.proofs.fill.line_words.Goals as goal
 
-pub returns-then-kind-eq0 : goal.returns-then-kind-eq0
-returns-then-kind-eq0 c =
+pub returns-then-gate-eq0 : goal.returns-then-gate-eq0
+returns-then-gate-eq0 c =
     let a = c.args in
     λ w l.
-    word_at _ (λ v. input_word (a.base + 64 * v) a.i) c.input_words.ensures w l
-    ∙ good_input c.requires.0 a.i c.requires.1 (a.base + 64 * w) _ c.number-kind.ensures.0 c.if-kind-eq0.true
+    word_at _ (λ v. input_word (a.trial.base + 64 * v) a.i) c.input_words.ensures w l
+    ∙ good_input a.trial.decoded a.i c.requires.0 (a.trial.base + 64 * w) c.if-gate-eq0.true
+
+pub gate_words-requires : goal.gate_words-requires
+gate_words-requires c =
+    let is = c.args.trial.decoded in
+    let i = c.args.i in
+    let inside = c.requires.0 in
+    let few : (gate_at c.args.trial.flat.now i).count ≤ 4 = rw (is.count i inside) (four_pins is i inside) in (
+      few,
+      λ j l.
+          let least : j < 4 = omega arith in
+          omega (arith, c.good_places.ensures j least, is.inside i j inside least, c.requires.2.long),
+    )
 
 pub returns : goal.returns
 returns c =
     let a = c.args in
-    let is = c.requires.0 in
-    let inside = c.requires.1 in
-    let b = board_of a.img.now in
+    let is = a.trial.decoded in
+    let inside = c.requires.0 in
+    let b = board_of a.trial.img.now in
     λ w l.
-    let base = a.base + 64 * w in
-    gate_of is a.i inside (value (words base) b) c.number-kind.result c.number.result c.good_places.result a.rows.now c.gate_words.result c.gate_words.ensures
-    c.number-kind.ensures.0 c.number.ensures.0 w l (λ j m.
+    let base = a.trial.base + 64 * w in
+    gate_of is a.i inside (value (words base) b) c.good_places.result a.rows.now c.gate_words.result c.gate_words.ensures w l (λ j m.
     let few = four_pins is a.i inside in
     ap (λ (x : ℕ). get_or a.rows.now (x + w) 0) (c.good_places.ensures j (omega arith))
-    ∙ c.requires.4 (get_or a.flat.now (8 * a.i + 2 + j) 0) w (pin_low is a.i inside j m) l)
-    ∙ good-gate is a.i inside base c.number-kind.result c.number-kind.ensures.0 c.if-kind-eq0.false
+    ∙ c.requires.3 (get_or (gate_at a.trial.flat.now a.i).pins j 0) w (pin_low is a.i inside j m) l)
+    ∙ good-gate is a.i inside base c.if-gate-eq0.false

@@ -1,9 +1,6 @@
-use Rattle.std.proofs.Common.{◌≡◌, ℕ, ◌+◌, ◌-◌, ◌*◌, ◌≤◌, ◌<◌, false, get_or}
+use Rattle.std.proofs.Common.{◌≡◌, ℕ, ◌<◌, false, get_or}
 use Rattle.lanes.specs.Inner.{is_changed}
 use Rattle.lanes.proofs.flip.hears.Given as goal
 
 abbrev pub invariant-loop-j : goal.invariant-loop-j
-invariant-loop-j l = (l.j ≤ l.count) × ((k : ℕ) → k < l.j → is_changed l.line l.changed (get_or l.flat (8 * l.i + 2 + k) 0) ≡ false)
-
-abbrev pub decreases-loop-j : goal.decreases-loop-j
-decreases-loop-j l = l.count - l.j
+invariant-loop-j l = (k : ℕ) → k < l.j → is_changed l.line l.changed (get_or l.gate.pins k 0) ≡ false

@@ -1,11 +1,10 @@
 -- An absent pin has not a byte.
-use Rattle.std.proofs.Common.{refl, arith}
 use Rattle.report.specs.Book.{entry_line}
 use Rattle.report.proofs.book.entry_line.Goals as goal
 
 pub returns-then-is_absent : goal.returns-then-is_absent
 unfolding entry_line
-returns-then-is_absent c = rw (← c.fault_at-fault.ensures, ← c.is_absent.ensures, c.if-is_absent.true) (record { room = omega arith; is = refl })
+returns-then-is_absent c = rw (← c.fault_at-fault.ensures, ← c.is_absent.ensures, c.if-is_absent.true) c.blank.ensures
 
 pub returns : goal.returns
 unfolding entry_line

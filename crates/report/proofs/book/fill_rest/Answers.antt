@@ -7,27 +7,30 @@ use Rattle.image.proofs.Laws.Fine.{lines_few}
 use Rattle.report.proofs.Laws.Book.{entries_few, book_after}
 use Rattle.report.proofs.book.fill_rest.Goals as goal
 
+pub invariant_of-board : goal.invariant_of-board
+invariant_of-board c = record { known = c.in-Ok.ensures.1 }
+
 pub slice_bounds-fill_book-end : goal.slice_bounds-fill_book-end
 slice_bounds-fill_book-end c =
-    let known = c.in-Good.ensures.1 in
-    let few : c.entries_a_line.result * c.in-Good.counts.lines ≤ 8 * most_lines = rw (c.entries_a_line.ensures.0, known.lines_are) (entries_few c.args.sort _ (lines_few _ known.ok)) in
+    let known = c.in-Ok.ensures.1 in
+    let few : c.entries_a_line.result * c.in-Ok.counts.lines ≤ 8 * most_lines = rw (c.entries_a_line.ensures.0, known.lines_are) (entries_few c.args.sort _ (lines_few _ known.ok)) in
     omega (arith, few, c.requires)
 
-pub slice_bounds-fill_book-end-in-Good : goal.slice_bounds-fill_book-end-in-Good
-slice_bounds-fill_book-end-in-Good c =
-    let known = c.in-Good.ensures.1 in
-    let few : c.entries_a_line.result * c.in-Good.counts.lines ≤ 8 * most_lines = rw (c.entries_a_line.ensures.0, known.lines_are) (entries_few c.args.sort _ (lines_few _ known.ok)) in
+pub slice_bounds-fill_book-end-2 : goal.slice_bounds-fill_book-end-2
+slice_bounds-fill_book-end-2 c =
+    let known = c.in-Ok.ensures.1 in
+    let few : c.entries_a_line.result * c.in-Ok.counts.lines ≤ 8 * most_lines = rw (c.entries_a_line.ensures.0, known.lines_are) (entries_few c.args.sort _ (lines_few _ known.ok)) in
     simp length-take (omega (arith, few, c.requires))
 
 pub fill_book-found-requires : goal.fill_book-found-requires
 fill_book-found-requires c =
-    let known = c.in-Good.ensures.1 in
-    let few : c.entries_a_line.result * c.in-Good.counts.lines ≤ 8 * most_lines = rw (c.entries_a_line.ensures.0, known.lines_are) (entries_few c.args.sort _ (lines_few _ known.ok)) in
-    let entries : c.entries_a_line.result * c.in-Good.counts.lines ≡ entries_a_line c.args.sort * line_count c.args.img.now = rw (c.entries_a_line.ensures.0, known.lines_are) in
-    (known, simp length-take (omega (arith, entries, few, c.requires)))
+    let known = c.in-Ok.ensures.1 in
+    let few : c.entries_a_line.result * c.in-Ok.counts.lines ≤ 8 * most_lines = rw (c.entries_a_line.ensures.0, known.lines_are) (entries_few c.args.sort _ (lines_few _ known.ok)) in
+    let entries : c.entries_a_line.result * c.in-Ok.counts.lines ≡ entries_a_line c.args.sort * line_count c.args.img.now = rw (c.entries_a_line.ensures.0, known.lines_are) in
+    simp length-take (omega (arith, entries, few, c.requires))
 
-pub returns-in-Good : goal.returns-in-Good
-returns-in-Good c =
-    let known = c.in-Good.ensures.1 in
-    let entries : c.entries_a_line.result * c.in-Good.counts.lines ≡ entries_a_line c.args.sort * line_count c.args.img.now = rw (c.entries_a_line.ensures.0, known.lines_are) in
+pub returns : goal.returns
+returns c =
+    let known = c.in-Ok.ensures.1 in
+    let entries : c.entries_a_line.result * c.in-Ok.counts.lines ≡ entries_a_line c.args.sort * line_count c.args.img.now = rw (c.entries_a_line.ensures.0, known.lines_are) in
     book_after _ _ c.fill_book-found.new.book _ _ _ _ known.ok entries c.fill_book-found.ensures.0 c.fill_book-found.ensures.1 c.faults_of.ensures

@@ -6,7 +6,7 @@ use Rattle.report.proofs.book.later_line.Goals as goal
 pub entry_line-requires : goal.entry_line-requires
 entry_line-requires c =
     let long = ap (λ (l : List ℕ). length l) c.requires.0.is in
-    (c.requires.0.ok, omega (arith, long, book_length c.args.sort c.args.img.now), c.requires.2)
+    (c.requires.0.ok, omega (arith, long, book_length c.args.sort c.args.img.now))
 
 pub returns-then-k-book : goal.returns-then-k-book
 returns-then-k-book c =

@@ -17,4 +17,4 @@ returns c =
     let found : c.if-n-eq0.found ≡ cond (eqb n.values 0) 0 n.first =
     elim c.if-n-eq0.branch [ then-n-eq0 w ↦ rw (eq-eqb n.values 0 w.if-n-eq0.true) w.found-is | else-n-eq0 w ↦ rw (ne_eqb n.values 0 w.if-n-eq0.false) w.found-is ]
     in
-    rw (c.if-n-ne0.false, first-value, ← found) c.spell.ensures
+    rw (c.if-n-ne0.false, first-value, ← found) c.of.ensures

@@ -16,5 +16,5 @@ loop-i-preserved c =
     let inv = c.loop-i.invariant in
     let i = c.loop-i.i in
     let line : length a.before.now + i < line_count a.img.now = omega (arith, c.requires.within, inv.long, c.loop-i-test.true) in
-    stored _ inv c.line_value-v.result (omega (arith, inv.long, c.loop-i-test.true))
-    (rw c.requires.place at c.line_value-v.ensures ∙ line_step (faulty a.condition a.x) a.img.now (length a.before.now + i) _ line)
+    stored _ inv c.value-v.result (omega (arith, inv.long, c.loop-i-test.true))
+    (rw c.requires.place at c.value-v.ensures ∙ line_step (faulty a.condition a.x) a.img.now (length a.before.now + i) _ line)

@@ -1,5 +1,4 @@
 -- What the part holds so far is what grows behind the bytes before it.
-use Rattle.std.proofs.Common.{◌-◌, length}
 use Rattle.board.specs.Row.{step}
 use Rattle.board.specs.Gate.{faulty}
 use Rattle.board.proofs.Filling.{Filling}
@@ -8,6 +7,3 @@ use Rattle.rows.proofs.fill.fill.Given as goal
 
 abbrev pub invariant-loop-i : goal.invariant-loop-i
 invariant-loop-i l = Filling (step (faulty l.condition l.x) (board_of l.img)) l.before l.initial.part l.i l.part
-
-abbrev pub decreases-loop-i : goal.decreases-loop-i
-decreases-loop-i l = length l.part - l.i

@@ -1,8 +1,11 @@
--- No byte before i is over 1.
-use Rattle.std.proofs.Common.{ltb, sym}
-use Rattle.std.proofs.Math.Nat.{lt_of_lt_of_le}
-use Rattle.board.proofs.Lists.{nowhere_at}
+-- Some byte is over 1 exactly where `any` finds one.
+use Rattle.std.proofs.Common.{ltb, ◌∙◌, rules, tests}
+use Rattle.std.proofs.lemmas.Iterator.{YieldsList-from_slice}
+use Rattle.std.proofs.lemmas.Iterator.Search.{any_from_yields_List}
+use Rattle.rows.proofs.Laws.Any.{any_somewhere}
 use Rattle.rows.proofs.prefix.has_over_one.Goals as goal
 
 pub returns : goal.returns
-returns c = sym (nowhere_at (ltb 1) c.args.s.now (λ i l. c.loop-i.invariant.1 i (lt_of_lt_of_le l c.loop-i-test.false)))
+returns c =
+    let s = c.args.s.now in
+    any_from_yields_List (ltb 1) _ _ c.any.result c.any.ensures.ran (YieldsList-from_slice s cc) (λ x b q k. search (rules, tests)) ∙ any_somewhere (ltb 1) s

@@ -1,26 +1,60 @@
--- By how the line's word at `at` suits the form's word at `f`.
-use Rattle.std.proofs.Common.{refl, sym, ◌∙◌}
-use Rattle.words.specs.Inner.{parts_from}
-use Rattle.words.proofs.Laws.Forms.{fit_lack, fit_next, fit_end}
+-- By how the line's next word suits the form's next word.
+use Rattle.std.proofs.Common.{◌≡◌, ◌∷◌, Ok, Err, true, false, rules, tests, of_calls, sym, ap, ◌∙◌, eqb}
+use Rattle.std.proofs.lemmas.List.Sorted.{answers_always}
+use Rattle.std.proofs.lemmas.Result.{err_from_is_err_and}
+use Rattle.words.specs.Parts.{words}
+use Rattle.words.specs.Forms.{word_fit, both_fit, form_fit}
+use Rattle.words.proofs.Laws.Parts.{left, left_more, left_none, left_all}
+use Rattle.words.proofs.Laws.Forms.{fit_lack, fit_next, fit_end, fit_more}
 use Rattle.words.proofs.forms.form_fit.Goals as goal
+use Rattle.words.proofs.forms.form_fit.Goals.{In-Some, In-Some-next}
 
-pub loop-f-init : goal.loop-f-init
-unfolding parts_from
-loop-f-init c = refl
+-- the form's next word, and the line's
+asked_left : (c : In-Some) → left (λ x. eqb x 32) c.loop-asked.asked-iterator ≡ c.in-Some.asked.now ∷ left (λ x. eqb x 32) c.next.new.self
+asked_left c =
+    left_more (λ x. eqb x 32) c.loop-asked.asked-iterator _ c.next.new.self c.in-Some.asked c.in-Some.ensures.steps (answers_always _ _ _ (λ f a r q h. search (rules, tests)))
 
-pub returns-then-line-at : goal.returns-then-line-at
-returns-then-line-at c =
-    c.either.ensures ∙ sym (fit_lack _ _ _ _ _ c.loop-f.invariant _ c.loop-f-test.true c.part_at-asked.ensures c.if-line-at.true)
+both_next : (c : In-Some-next) → form_fit (words c.args.form.now) (words c.args.line.now)
+    ≡ both_fit (word_fit c.in-Some.asked.now c.in-Some-next.word.now) (form_fit (left (λ x. eqb x 32) c.next.new.self) (left (λ x. eqb x 32) c.next-in-loop-asked.new.self))
+both_next c =
+    let word = left_more (λ x. eqb x 32) c.loop-asked.words _ c.next-in-loop-asked.new.self c.in-Some-next.word c.in-Some-next.ensures.steps (answers_always _ _ _ (λ f a r q h. search (rules, tests))) in
+    fit_next _ _ _ c.loop-asked.invariant.2 _ _ _ _ (asked_left (goal.at.In-Some-next c).In-Some) word
 
-pub returns-then-not-is_fit : goal.returns-then-not-is_fit
-returns-then-not-is_fit c =
-    let said = fit_next _ _ _ _ _ c.loop-f.invariant _ c.loop-f-test.true c.part_at-asked.ensures _ _ c.if-line-at.false c.part_at.ensures c.word_fit-fit.ensures in
-    sym (rw (sym c.if-not-is_fit.ensures) at said)
+pub loop-asked-init : goal.loop-asked-init
+loop-asked-init c =
+    let asks = left_all (λ x. eqb x 32) c.split-asked-items.result _ c.split-asked-items.ensures.rest c.split-asked-items.ensures.done in
+    let words = left_all (λ x. eqb x 32) c.split-words.result _ c.split-words.ensures.rest c.split-words.ensures.done in
+    (search of_calls, tt, rw (c.into_iter-asked-iterator.ensures.into_iter_gives, asks, words))
 
-pub loop-f-preserved : goal.loop-f-preserved
-loop-f-preserved c =
-    let said = fit_next _ _ _ _ _ c.loop-f.invariant _ c.loop-f-test.true c.part_at-asked.ensures _ _ c.if-line-at.false c.part_at.ensures c.word_fit-fit.ensures in
-    rw (c.next_start-f.ensures.is, c.next_start-at.ensures.is) (rw (sym c.if-not-is_fit.ensures) at said)
+pub returns-in_default : goal.returns-in_default
+returns-in_default c =
+    let none = left_none (λ x. eqb x 32) c.loop-asked.words c.in_default.ensures.steps.0 in
+    c.lack_fit.ensures ∙ sym (fit_lack _ _ _ c.loop-asked.invariant.2 _ _ (asked_left (goal.at.returns-in_default c).In-Some) none)
 
-pub returns : goal.returns
-returns c = c.either-2.ensures ∙ fit_end _ _ _ _ _ c.loop-f.invariant c.loop-f-test.false
+pub returns-in_err-word_fit : goal.returns-in_err-word_fit
+returns-in_err-word_fit c =
+    let p = err_from_is_err_and c.from_residual.result c.from_residual.ensures.1 in
+    let is : word_fit c.in-Some.asked.now c.in-Some-next.word.now ≡ Err c.in_err-word_fit.field-0.0 = sym c.word_fit.ensures ∙ c.in_err-word_fit.was in
+    rw (p.1, p.2, both_next (goal.at.returns-in_err-word_fit c).In-Some-next, is)
+
+pub returns-then-not-branch : goal.returns-then-not-branch
+returns-then-not-branch c =
+    let is : word_fit c.in-Some.asked.now c.in-Some-next.word.now ≡ Ok false = sym c.word_fit.ensures ∙ c.in_ok-word_fit.was ∙ ap (λ b. Ok b) c.if-not-branch.true in
+    rw (both_next (goal.at.returns-then-not-branch c).In-Some-next, is)
+
+pub loop-asked-preserved : goal.loop-asked-preserved
+loop-asked-preserved c =
+    let is : word_fit c.in-Some.asked.now c.in-Some-next.word.now ≡ Ok true = sym c.word_fit.ensures ∙ c.in_ok-word_fit.was ∙ ap (λ b. Ok b) c.if-not-branch.false in
+    (search of_calls, tt, rw (both_next (goal.at.loop-asked-preserved c).In-Some-next, is))
+
+pub returns-in-None-next : goal.returns-in-None-next
+returns-in-None-next c =
+    let asks = left_none (λ x. eqb x 32) c.loop-asked.asked-iterator c.in-None.ensures.steps.0 in
+    let words = left_none (λ x. eqb x 32) c.loop-asked.words c.in-None-next.ensures.steps.0 in
+    sym (fit_end _ _ _ c.loop-asked.invariant.2 asks words)
+
+pub returns-in-Some-next-2 : goal.returns-in-Some-next-2
+returns-in-Some-next-2 c =
+    let asks = left_none (λ x. eqb x 32) c.loop-asked.asked-iterator c.in-None.ensures.steps.0 in
+    let word = left_more (λ x. eqb x 32) c.loop-asked.words _ c.next-2.new.self c.in-Some-next-2.field-0 c.in-Some-next-2.ensures.steps (answers_always _ _ _ (λ f a r q h. search (rules, tests))) in
+    sym (fit_more _ _ _ c.loop-asked.invariant.2 _ _ asks word)

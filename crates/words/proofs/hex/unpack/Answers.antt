@@ -5,4 +5,4 @@ use Rattle.words.proofs.hex.unpack.Goals as goal
 
 pub loop-i-preserved : goal.loop-i-preserved
 loop-i-preserved c =
-    (omega arith, put_more _ _ c.args.out.now c.loop-i.out c.loop-i.i _ c.loop-i.invariant.1 (omega arith) (omega arith) c.byte_of.ensures)
+    put_more _ _ c.args.out.now c.loop-i.out c.loop-i.i _ c.loop-i.invariant (omega arith) (omega arith) c.byte_of.ensures

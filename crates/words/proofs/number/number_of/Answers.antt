@@ -1,23 +1,28 @@
--- By whether the digits behind `i` still fit.
-use Rattle.std.proofs.Common.{arith, sym}
-use Rattle.words.proofs.Laws.Number.{no_digits, value_more, too_wide, value_end}
+-- By whether there is a digit at the place, and whether the digits up to it still fit.
+use Rattle.std.proofs.Common.{◌≡◌, ◌+◌, ◌*◌, ◌-◌, arith, sym, ◌∙◌, get_or}
+use Rattle.words.specs.Number.{number_of}
+use Rattle.words.proofs.Laws.Number.{digit_more, digit_not, digit_wide, no_more}
 use Rattle.words.proofs.number.number_of.Goals as goal
 
-pub returns-then-not-is_all : goal.returns-then-not-is_all
-returns-then-not-is_all c = no_digits c.args.word.now (sym c.if-not-is_all.ensures)
+pub returns-then-is_empty : goal.returns-then-is_empty
+unfolding number_of
+returns-then-is_empty c = rw (sym c.is_empty.ensures ∙ c.if-is_empty.true)
 
-pub returns-then-next-value : goal.returns-then-next-value
-returns-then-next-value c =
-    too_wide c.args.word.now c.loop-i.i c.loop-i.value c.loop-i.invariant.2 c.digit-next.result c.loop-i-test.true c.digit-next.ensures.0 (sym c.if-not-is_all.ensures)
-    (omega arith)
+pub loop-x-init : goal.loop-x-init
+unfolding number_of
+loop-x-init c = (omega arith, rw (sym c.is_empty.ensures ∙ c.if-is_empty.false))
 
-pub loop-i-preserved : goal.loop-i-preserved
-loop-i-preserved c = (
-  omega arith,
-  omega arith,
-  value_more c.args.word.now c.loop-i.i c.loop-i.value c.loop-i.invariant.2 c.digit-next.result c.loop-i-test.true c.digit-next.ensures.0,
-)
+pub returns-then-not-is_ascii_digit : goal.returns-then-not-is_ascii_digit
+returns-then-not-is_ascii_digit c = sym (digit_not c.args.word.now c.loop-x.x-index c.loop-x.value _ (omega arith) c.loop-x.invariant.1 (sym c.is_ascii_digit.ensures.value ∙ c.if-not-is_ascii_digit.true))
+
+pub returns-in_err-value : goal.returns-in_err-value
+returns-in_err-value c =
+    c.from_residual.ensures ∙ sym (digit_wide c.args.word.now c.loop-x.x-index c.loop-x.value _ (omega arith) c.loop-x.invariant.1 (omega (arith, c.in_err-value.ensures)))
+
+pub loop-x-preserved : goal.loop-x-preserved
+loop-x-preserved c =
+    let is : c.in_ok-value.value ≡ 10 * c.loop-x.value + (get_or c.args.word.now c.loop-x.x-index 0 - 48) = omega (arith, c.in_ok-value.ensures) in
+    (omega arith, rw is (digit_more c.args.word.now c.loop-x.x-index c.loop-x.value _ (omega arith) c.loop-x.invariant.1 (sym c.is_ascii_digit.ensures.value ∙ c.if-not-is_ascii_digit.false)))
 
 pub returns : goal.returns
-returns c =
-    value_end c.args.word.now c.loop-i.i c.loop-i.value c.loop-i.invariant.2 (sym c.if-not-is_all.ensures) (omega arith) c.loop-i.invariant.1
+returns c = sym (no_more c.args.word.now c.loop-x.x-index c.loop-x.value _ (omega arith) c.loop-x.invariant.1 c.loop-x.invariant.0)

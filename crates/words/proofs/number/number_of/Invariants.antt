@@ -1,10 +1,7 @@
--- The first `i` digits come to `value`.
-use Rattle.std.proofs.Common.{◌≡◌, ◌-◌, ◌^◌, ◌≤◌, ◌<◌, length, drop}
-use Rattle.words.specs.Number.{value_from, value_of}
+-- The digits before `x` come to `value`.
+use Rattle.std.proofs.Common.{◌≡◌, ◌^◌, ◌<◌, drop}
+use Rattle.words.specs.Number.{numeral, number_of}
 use Rattle.words.proofs.number.number_of.Given as goal
 
-abbrev pub invariant-loop-i : goal.invariant-loop-i
-invariant-loop-i l = (l.i ≤ length l.word) × (l.value < 2 ^ 64) × (value_of l.word ≡ value_from l.value (drop l.i l.word))
-
-abbrev pub decreases-loop-i : goal.decreases-loop-i
-decreases-loop-i l = length l.word - l.i
+abbrev pub invariant-loop-x : goal.invariant-loop-x
+invariant-loop-x l = (l.value < 2 ^ 64) × (number_of l.word ≡ numeral l.value (drop l.x-index l.word))

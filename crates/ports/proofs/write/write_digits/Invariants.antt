@@ -1,9 +1,0 @@
--- It goes on from piece to piece, to the end.
-use Rattle.std.proofs.Common.{◌-◌, ◌≤◌, length}
-use Rattle.ports.proofs.write.write_digits.Given as goal
-
-abbrev pub invariant-loop-at : goal.invariant-loop-at
-invariant-loop-at l = l.at ≤ length l.bytes
-
-abbrev pub decreases-loop-at : goal.decreases-loop-at
-decreases-loop-at l = length l.bytes - l.at
