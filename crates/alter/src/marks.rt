@@ -1,4 +1,4 @@
-// Which lines reach an output that a line reaches too, as a row of marks.
+// Which lines reach an output that a line reaches too, as a row of marks: bytes, as the definitions read such rows (`on`).
 ghost use Rattle.std.specs.Prelude.{◌≡◌, ℕ, length, get_or};
 ghost use Rattle.image.specs.Image.{board_of};
 ghost use Rattle.alter.specs.Inner.{with_common, Met, AloneUnlessMarked};

@@ -5,7 +5,7 @@ ghost use Rattle.drawing.specs.Inner.{Common, Chosen, Run, numbered};
 use crate::stop::Stop;
 use text::form::spell;
 
-// Which of some pieces a text begins with, by its place in the forms given, and its length.
+// Which of some pieces a text begins with, by its place in the forms given, which are other ones at each call, and its length.
 #[derive(Clone, Copy)]
 pub struct Took {
     pub which: usize,

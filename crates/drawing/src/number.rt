@@ -23,7 +23,7 @@ fn digit(x: u8) -> Option<usize>
     }
 }
 
-// Reads a number without leading zeros as far as it goes, up to the largest.
+// Reads a number without leading zeros as far as it goes, up to the largest. Where it ends hangs on the value so far, so it is no `take_while`.
 pub fn read_number(rest: &[u8]) -> Option<Number>
     ensures { Counted rest.now result }
 {

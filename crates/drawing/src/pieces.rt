@@ -35,10 +35,10 @@ pub const WORDS: [&[u8]; 10] = [
     b"TIE1()\n",
 ];
 
-// A number, as kinds are in a record.
+// A number, as kinds are in a record: a word's place in WORDS is compared with it.
 pub const FIRST_TIE: usize = 9;
 
-// How the statements of a section and of later ones begin.
+// How the statements of a section and of later ones begin: a section is a place in this table.
 pub fn statements_from(section: usize) -> &'static [&'static [u8]]
     requires { section < 3 }
     ensures { Run section 3 result.now }
@@ -54,7 +54,7 @@ pub fn behind_pin(left: usize) -> &'static [&'static [u8]]
     &BEHIND_PIN[..left.min(2)]
 }
 
-// The word of a kind.
+// The word of a kind, which is a place in the table of words, counted from 1.
 pub fn word_of(kind: usize) -> &'static [u8]
     requires { (1 ≤ kind) × (kind ≤ last_kind) }
     ensures { (result.now ≡ get_or piece_forms (4 + kind) []) × (length result.now ≤ 12) }

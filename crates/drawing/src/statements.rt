@@ -60,7 +60,7 @@ fn pin_of(img: &[u8], line: usize, pin: usize) -> usize
     word(img, record_place(img, line) + 2 + 2 * pin)
 }
 
-// A gate's statement.
+// A gate's statement. It needs no counts, so it takes the image alone.
 fn gate(img: &[u8], line: usize) -> StatementText
     requires { IsAccepted img.now × GateOf img.now line }
     ensures { made result ≡ gate_text line (record_of (board_of img.now) line) }
@@ -127,7 +127,7 @@ fn add_statement(board: Accepted, j: usize, target: &mut [u8], at: usize) -> usi
     at + copy(&made.bytes[..made.length], &mut target[at..])
 }
 
-// How long the text of an image's board is.
+// How long the text of an image's board is. That the sum does not overflow is a fact of each step, so it is a loop and no `sum`.
 pub fn text_length(board: Accepted) -> usize
     ensures { result ≡ length (text_of (board_of board.entry.img.now)) }
 {

@@ -28,7 +28,7 @@ fn put_word(value: usize, out: &mut [u8], at: usize) -> usize
     put(&(value as u16).to_le_bytes(), out, at)
 }
 
-// Puts a record.
+// Puts a record in a buffer as that of `put_word`. Kind, count and pins come apart: what is read is no record yet.
 fn put_record(kind: usize, count: usize, pins: [usize; 4], out: &mut [u8], at: usize) -> usize
     requires { (kind < 256) × (count < 256) × Small pins × (at + 10 ≤ length out.old) }
     ensures { (result ≡ at + 10) × (take result out.new ≡ take at out.old ++ (kind ∷ count ∷ each word_bytes pins)) }
@@ -40,7 +40,7 @@ fn put_record(kind: usize, count: usize, pins: [usize; 4], out: &mut [u8], at: u
     end
 }
 
-// Puts the trailer.
+// Puts the trailer in a buffer as that of `put_word`.
 fn put_trailer(lines: usize, outputs: usize, out: &mut [u8], at: usize) -> usize
     requires { (lines ≤ most_lines) × (outputs ≤ most_outputs) × (at + 12 ≤ length out.old) }
     ensures { (result ≡ at + 12) × (take result out.new ≡ take at out.old ++ trailer_bytes lines outputs) }

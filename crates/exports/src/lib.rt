@@ -21,8 +21,8 @@ use board::Fault;
 use image::limits::Entry;
 use image::said::{Numbers, said, with_two};
 
-// A fault in numbers. Its sort is 0 for a line's and any other number for a pin's, so that no third sort can be named; a line's has no use
-// for the pin.
+// A fault in numbers. Its sort is 0 for a line's and any other number for a pin's, so that no third sort can be named: C may
+// hand over any byte, so it is no enum. A line's has no use for the pin.
 #[repr(C)]
 #[derive(Clone, Copy)]
 pub struct FaultNumbers {

@@ -1,5 +1,5 @@
 // A block of patterns tried for a part of a book, whose entries are those from number `first` on. A row has the lines that are still to do: a
-// line is done when each of its entries is found or on an absent pin.
+// line is done when each of its entries is found or on an absent pin. It is bytes, as the definitions read rows of marks (`on`).
 ghost use Rattle.std.specs.Prelude.{◌≡◌, true, false, ℕ, ◌+◌, ◌*◌, ◌/◌, ◌≤◌, ◌<◌, length};
 ghost use Rattle.board.specs.Gate.{site, absent};
 ghost use Rattle.board.specs.Test.{shows};
@@ -85,7 +85,7 @@ fn is_idle(trial: Trial, rows: &[u64], at: Start, part: &[Entry]) -> bool
     true
 }
 
-// Whether a fault is on an absent pin.
+// Whether a fault is on an absent pin, by the decoded board: image's looks at the bytes of one that may not be accepted.
 fn is_absent(trial: Trial, condition: Condition) -> bool
     requires { site condition < size (board_of trial.img.now) }
     ensures { let t = trial.entry in result ≡ absent (board_of t.img.now) condition }

@@ -63,7 +63,7 @@ fn search(
     }
 }
 
-// Marks in a row the lines that are marked in another, none past its end.
+// Marks in a row the lines that are marked in another, none past its end. Rows of bytes, as in blocks.rt.
 fn take_marks(marks: &[u8], todo: &mut [u8])
     ensures { SameMarks marks.now todo.old todo.new }
 {

@@ -1,4 +1,5 @@
-// The five value of one line: the condition is a value, so that there is one way to work a line out.
+// The five value of one line: the condition is a value, so that there is one way to work a line out. The five values are the paper's numbers, 0 to 4: rows hold them as bytes, and the
+// table's slot counts with them, so an enum would be cast to its number at each step.
 ghost use Rattle.std.specs.Prelude.{◌≡◌, ◌<◌, get_or};
 ghost use Rattle.board.specs.Row.{step};
 ghost use Rattle.board.specs.Gate.{held_line};

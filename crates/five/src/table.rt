@@ -1918,7 +1918,7 @@ impl Section {
     }
 }
 
-// What stands at a place of a table, and x past its end.
+// What stands at a place of a table, and x past its end; of an image `byte` gives 0 there, so they are two.
 pub fn pick(table: &[u8], at: usize) -> usize
     ensures { (result ≡ get_or table.now at 2) × (result < 256) }
 {

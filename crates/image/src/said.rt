@@ -17,7 +17,7 @@ pub struct Numbers {
     pub third: u64,
 }
 
-// A number with no value beside it.
+// A number with no value beside it. It and the next two write out the padding, which C's struct has: one function would take the count and the three places.
 pub fn alone(number: u64) -> Numbers
     ensures { Packs (number ∷ []) result }
 {

@@ -40,6 +40,7 @@ fn lowest_one(d: u64) -> u64
 }
 
 // The lowest lane that is 1, or 512 where none is: a block's end, so that one comparison with the end of the patterns serves both.
+// The first word that is not 0 is needed with its place, so `find` would come to the same.
 pub fn lowest(e: u64x8) -> u64
     ensures { Lowest e result }
 {

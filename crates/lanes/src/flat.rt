@@ -52,7 +52,7 @@ fn mark_output(line: usize, flat: &mut [Gate])
     flat[line].is_output = true;
 }
 
-// Decodes a line's record, where the lines below it are decoded, and notes the line as the last that reads each of its pins' lines.
+// Decodes a line's record, where the lines below it are decoded, and notes the line as the last that reads each of its pins' lines. It needs no counts, so it takes the image alone.
 fn decode_line(img: &[u8], line: usize, flat: &mut [Gate])
     requires { IsAccepted img.now × (line < line_count img.now) × Decoded (board_of img.now) line [] flat.old }
     ensures { Decoded (board_of img.now) (line + 1) [] flat.new }
@@ -74,7 +74,7 @@ fn decode_line(img: &[u8], line: usize, flat: &mut [Gate])
     };
 }
 
-// Marks the lines that are outputs, where every line is decoded.
+// Marks the lines that are outputs, where every line is decoded. It takes the one count that it needs.
 fn mark_outputs(img: &[u8], outputs: usize, flat: &mut [Gate])
     requires { IsAccepted img.now × (outputs ≡ output_count img.now) × Decoded (board_of img.now) (line_count img.now) [] flat.old }
     ensures { Decoded (board_of img.now) (line_count img.now) (board_of img.now).outs flat.new }

@@ -1,4 +1,5 @@
 // A change of one line passed up the board: the lanes in which it is seen at an output. Only gates that read a changed line are run again.
+// Which lines changed is a row of bytes, as the definitions read rows of marks.
 ghost use Rattle.std.specs.Prelude.{◌≡◌, true, false, ℕ, ◌+◌, ◌*◌, ◌≤◌, ◌<◌, length, get_or};
 ghost use Rattle.std.specs.Int.Bits.{bit_or};
 ghost use Rattle.board.specs.Row.{value};

@@ -7,7 +7,7 @@ use crate::eight::{FULL, eight_at};
 use crate::flat::Gate;
 use std::simd::u64x8;
 
-// One pin more, by what the kind asks.
+// One pin more, by what the kind asks. Kinds are numbers as in flat.rt.
 fn join(kind: u16, a: u64x8, b: u64x8) -> u64x8
     ensures { result ≡ each (λ w. joined kind (get_or a w 0) (get_or b w 0)) }
 {

@@ -126,7 +126,7 @@ impl Place {
     }
 }
 
-// Reads on behind the bytes from start to end, or behind the end alone where there is no start.
+// Reads on behind the bytes from start to end, or behind the end alone where there is no start. A read that fails is an end of the input.
 fn read_behind(rt: &HostRuntime, buf: &mut [u8; ROOMY], start: Option<usize>, end: usize) -> Step
     requires { (unwrap_or start 0 ≤ end) × (end ≤ roomy) }
 {

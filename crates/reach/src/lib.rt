@@ -57,7 +57,7 @@ pub fn number_lines(board: Accepted, numbers: &mut [u64])
     }
 }
 
-// A line's number, 0 past the end.
+// A line's number, 0 past the end: a set of outputs, of which there is none.
 pub fn number(numbers: &[u64], line: usize) -> u64
     ensures { result ≡ get_or numbers.now line 0 }
 {

@@ -95,7 +95,7 @@ fn fault_line(c: Condition, e: Entry) -> Line
     }
 }
 
-// The line of entry k of a book, with the number that stands there: no bytes where its pin is absent.
+// The line of entry k of a book, with the number that stands there: no bytes where its pin is absent. It needs no counts, so it takes the image alone.
 fn entry_line(img: &[u8], sort: Sort, k: usize, e: Entry) -> Line
     requires { IsAccepted img.now × (k < entries_a_line sort * line_count img.now) }
     ensures { made result ≡ entry_line sort (board_of img.now) k e }

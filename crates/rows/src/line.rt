@@ -10,7 +10,7 @@ use board::{Condition, held_pin, stuck_line, stuck_of};
 use image::numbers::{byte, word};
 use image::pattern::bit_of;
 
-// What a kind, a byte of the image, makes of n pins, of which s are 1.
+// What a kind, a byte of the image, makes of n pins, of which s are 1: any byte may come in, and the papers' table counts kinds.
 pub fn gate_value(kind: usize, n: usize, s: usize) -> u8
     ensures { result ≡ bit (asks kind n s) }
 {

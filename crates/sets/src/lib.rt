@@ -45,7 +45,7 @@ pub fn split(s: u8) -> (u8, u8)
     (one, other)
 }
 
-// What a set's pairs become where their faulty value is held at 0 or 1.
+// What a set's pairs become where their faulty value is held at 0 or 1. This and `freed` are two tables, with a promise each.
 pub fn held(stuck: Option<u8>, x: u8) -> u8
     ensures { Held (unwrap_or stuck 2) x result }
 {
@@ -130,7 +130,8 @@ pub fn gate_step(way: usize, s: GateSets<4>) -> GateSets<4>
     }
 }
 
-// The step of a gate of at most two pins, the absent ones filled.
+// The step of a gate of at most two pins, the absent ones filled. One function for this and `gate_step` would be two loops over an array of halves, with invariants: no plainer than
+// these bodies without a loop.
 pub fn pair_step(way: usize, s: GateSets<2>) -> GateSets<2>
     requires { way < 6 }
     ensures { let p = slice_index s.pins in let q = slice_index result.pins in Paired way s.line (p 0) (p 1) result.line (q 0) (q 1) }

@@ -103,7 +103,8 @@ pub enum Command {
     Help,
 }
 
-// What a line's words stand for: words 1, 2 and 3 as numbers, 0 for none; the last as a fault, line 0's for none; and where the last begins.
+// What a line's words stand for: words 1, 2 and 3 as numbers, 0 for none; the last as a fault, line 0's for none; and where the last begins. No row asks for
+// a word that is none, so no Option is needed.
 #[derive(Clone, Copy)]
 pub struct Values {
     pub one: u64,

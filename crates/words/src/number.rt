@@ -28,7 +28,7 @@ pub fn number_of(word: &[u8]) -> Option<u64>
     Some(value)
 }
 
-// The number of a line's word at a place, counted from 0; 0 where it is none.
+// The number of a line's word at a place, counted from 0; 0 where it is none, and then no row asks for it.
 pub fn number_at(line: &[u8], place: usize) -> u64
     ensures { result ≡ number_at (words line.now) place }
 {

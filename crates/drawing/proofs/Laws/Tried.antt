@@ -1,5 +1,5 @@
 -- Pieces tried one after the other: how many bytes the best of them shares with a text.
-use mathlib.Core.Path.{◌≡◌, refl, sym, ap, ◌∙◌}
+use mathlib.Core.Path.{◌≡◌, sym, ap, ◌∙◌}
 use mathlib.Core.Logic.{⊎_elim, ◌⊎◌}
 use mathlib.Core.Bool.{true}
 use mathlib.Core.List.{List, ◌++◌}
@@ -20,9 +20,6 @@ pub record Tried (from to k : ℕ) (rest : List ℕ) (best which : ℕ) : Type 0
   pub inside : best ≤ length rest
   pub one : (w : ℕ) × (from ≤ w) × (w < to) × (take best (piece w k) ≡ take best rest)
   pub none_more : (w : ℕ) → from ≤ w → w < which → (x : List ℕ) → take (suc best) (piece w k ++ x) ≡ take (suc best) rest → ⊥
-
-pub tried_none : (from to k : ℕ) (rest : List ℕ) → from < to → Tried from to k rest 0 from
-tried_none from to k rest l = record { inside = omega arith; one = (from, omega arith, l, refl); none_more = λ w a b x e. absurd (omega arith) }
 
 module _ (from to k : ℕ) (rest : List ℕ) (best which : ℕ) (before : Tried from to k rest best which) where
   pub tried_more : (m r : ℕ) → from ≤ which → which < to → Common rest (piece which k) m → (m ≡ length (piece which k) → ⊥) → best ≤ r → m ≤ r → (r ≡ best) ⊎ (r ≡ m)

@@ -8,7 +8,7 @@ use Prim.Native.Nat.{ℕ, zero, suc, ◌+◌, ◌-◌, ◌≤◌, ◌<◌}
 use native.Mathlib.Nat.{add-zero, zero-add, add-suc}
 use native.Mathlib.Numerals.{add-one}
 use native.Mathlib.Omega.{arith}
-use lib.Dec.{eqb, ltb, lit<, eqb→eq, eqb-suc-suc}
+use lib.Dec.{eqb, ltb, eqb→eq, eqb-suc-suc}
 use lib.ListN.{length, get_or, length-append, get_or-eq_default, get_or-append}
 use lib.Seq.{ext_get_or}
 use borrow.Author.Tests.{eqb-true, eqb-false, eq-eqb, ne_eqb, ltb-true, ltb-false}
@@ -208,8 +208,3 @@ pub pins_read : (section : Section) (vs : List ℕ) → length vs ≤ 4 → (w :
     → a ≡ get_or vs 0 w → b ≡ get_or vs 1 w → c ≡ get_or vs 2 w → d ≡ get_or vs 3 w
     → gate5 (kind_of (number_of section)) (a ∷ b ∷ c ∷ d ∷ []) ≡ gate5 (kind_of (number_of section)) vs
 pins_read section vs few w e a b c d p q r s = rw (p, q, r, s, e) (four_pins section vs few)
-
-pub number_below : (section : Section) → number_of section < 3
-number_below And = lit< tt
-number_below Or = lit< tt
-number_below ExclusiveOr = lit< tt

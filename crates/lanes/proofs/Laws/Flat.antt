@@ -196,17 +196,6 @@ module _ (s : List ℕ) (ok : Accepted s) where
     pub pin_low : {p : ℕ} (j : ℕ) → j < byte_at s (at + 1) → p ≡ word_at s (at + 2 + 2 * j) → p < line_count s
     pin_low j l e = rw (e, is) (pin_inside s ok j (rw is at l) refl inside)
 
-    -- no pin yet
-    pub pins_none : {pins : List ℕ} {flat : List Gate} → length pins ≡ 4 → ((k : ℕ) → get_or pins k 0 ≡ 0) → Decoded (board_of s) line [] flat
-        → Pins (board_of s) line 0 pins flat
-    pins_none four zeros so = record {
-      decoded = so;
-      four = four;
-      pin = λ k l. absurd (not-suc-le-zero l);
-      bare = λ k l. zeros k;
-      read = λ k l. absurd (not-suc-le-zero l);
-    }
-
     -- one pin more
     pub pins_next : {j p : ℕ} {pins : List ℕ} {flat : List Gate} → j < byte_at s (at + 1) → p ≡ word_at s (at + 2 + 2 * j)
         → Pins (board_of s) line j pins flat

@@ -1,12 +1,12 @@
 -- What is said, one number after the other, by how many values stand beside the first; and a line by whether that is 0.
 use mathlib.Core.Path.{◌≡◌, refl}
 use mathlib.Core.List.{List, [], ◌∷◌}
-use mathlib.Core.Bool.{cond, ◌&&◌}
+use mathlib.Core.Bool.{cond}
 use Prim.Native.Nat.{ℕ, zero, suc, min}
 use native.Mathlib.Omega.{arith}
-use lib.Dec.{eqb, ltb}
-use borrow.Author.Tests.{ne_eqb, lt-ltb}
-use lib.ListN.{length, take, get_or}
+use lib.Dec.{eqb}
+use borrow.Author.Tests.{ne_eqb}
+use lib.ListN.{take, get_or}
 use Rattle.text.specs.Text.{form}
 use Rattle.report.specs.Lines.{refused_text, line_of, counted_line}
 
@@ -39,12 +39,3 @@ counted_refused all (suc n) vs not0 = refl
 pub first-value : (f s t v : ℕ) → get_or (take v (f ∷ s ∷ t ∷ [])) 0 0 ≡ cond (eqb v 0) 0 f
 first-value f s t zero = refl
 first-value f s t (suc v) = rw (ne_eqb (suc v) 0 (omega arith))
-
--- and the tests of a line's form: whether it is 1, and whether there is none
-pub first_is_1 : (f s t v : ℕ) → eqb (get_or (take v (f ∷ s ∷ t ∷ [])) 0 0) 1 ≡ (ltb 0 v && eqb f 1)
-first_is_1 f s t zero = refl
-first_is_1 f s t (suc v) = rw (lt-ltb 0 (suc v) (omega arith))
-
-pub none_beside : (n f s t v : ℕ) → eqb (length (n ∷ take v (f ∷ s ∷ t ∷ []))) 1 ≡ eqb v 0
-none_beside n f s t zero = refl
-none_beside n f s t (suc v) = rw (ne_eqb (suc v) 0 (omega arith), ne_eqb (suc (suc (length (take v (s ∷ t ∷ []))))) 1 (omega arith))

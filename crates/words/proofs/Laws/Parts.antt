@@ -27,6 +27,3 @@ module _ {F : Type 0} (p : ℕ → Bool) (s : Split ℕ F) where
 
   pub left_none : split_done s ≡ true → left p s ≡ []
   left_none done = rw done
-
-  pub left_all : (w : List ℕ) → split_rest s ≡ w → split_done s ≡ false → left p s ≡ slice_split p w
-  left_all w rest done = rw (done, rest)

@@ -2,13 +2,8 @@
 use Rattle.std.proofs.Common.{◌≡◌, ◌≤◌, ◌⊎◌, ◌+◌, sym, ◌∙◌, arith, rules}
 use Rattle.std.proofs.lemmas.Grind.{common_steps}
 use Rattle.drawing.proofs.Laws.Pieces.{run_long, run_room, run_written}
-use Rattle.drawing.proofs.Laws.Tried.{tried_none, tried_more, tried_all, of_piece, long_is, took}
+use Rattle.drawing.proofs.Laws.Tried.{tried_more, tried_all, of_piece, long_is, took}
 use Rattle.drawing.proofs.choose.choose.Goals as goal
-
-pub loop-which-init : goal.loop-which-init
-loop-which-init c = λ from to run.
-    let first : from + 0 ≡ from = omega arith in
-    rw first (tried_none from to c.args.k c.args.rest.now run.0)
 
 pub spell-n-requires : goal.spell-n-requires
 spell-n-requires c =

@@ -1,17 +1,12 @@
 -- `drawing::stored::put_record` meets its contract: a kind, a count, and four numbers of two bytes.
-use Rattle.std.proofs.Common.{◌≡◌, [], ◌∷◌, take, length, ◌∙◌, sym, append_assoc, append-nil, arith, rules}
-use Rattle.std.proofs.Math.Seq.{take_all}
+use Rattle.std.proofs.Common.{◌≡◌, length, ◌∙◌, sym, append_assoc, append-nil, arith, rules}
 use Rattle.text.specs.Text.{each}
-use Rattle.drawing.specs.Image.{word_bytes}
 use Rattle.drawing.proofs.Laws.Stored.{each-take}
 use Rattle.drawing.proofs.stored.put_record.Goals as goal
 
 pub loop-pin-init : goal.loop-pin-init
 unfolding each
 loop-pin-init c = record { end = omega arith; long = c.put-end.auto.out; put = c.put-end.ensures.1 ∙ sym (append-nil _) }
-
-pub put_word-end-requires : goal.put_word-end-requires
-put_word-end-requires c = let small = c.requires.2 c.loop-pin.pin-index in (small, omega arith)
 
 pub loop-pin-preserved : goal.loop-pin-preserved
 loop-pin-preserved c =
@@ -24,11 +19,3 @@ loop-pin-preserved c =
       long = put.auto.out ∙ l.invariant.long;
       put = rw (each-take pins l.pin-index (omega arith), ← append_assoc) (rw l.invariant.put at put.ensures.1);
     }
-
-pub returns : goal.returns
-returns c =
-    let l = c.loop-pin in
-    let a = c.args in
-    let four : length a.pins ≡ 4 = search rules in
-    let all : take l.pin-index a.pins ≡ a.pins = take_all l.pin-index a.pins (omega arith) in
-    (omega arith, rw all at l.invariant.put ∙ append_assoc (take a.at a.out.now) (a.kind ∷ a.count ∷ []) (each word_bytes a.pins))

@@ -1,5 +1,5 @@
 -- Fields are counted on from record to record, so the first bad field that the loops leave is the first of all.
-use Rattle.std.proofs.Common.{◌≡◌, ℕ, ◌+◌, ◌*◌, ◌<◌, sym, ap, ◌∙◌, arith, add_assoc, below_more}
+use Rattle.std.proofs.Common.{◌≡◌, ℕ, ◌+◌, ◌*◌, ◌<◌, sym, ap, ◌∙◌, arith}
 use Rattle.std.proofs.Math.Dec.{lit<}
 use Rattle.board.specs.Board.{leading}
 use Rattle.board.proofs.Search.{Below, first_at, first_none}
@@ -7,16 +7,6 @@ use Rattle.image.specs.Image.{line_count, first_record, record_place, records}
 use Rattle.image.specs.Refusals.{bad_at, first_bad}
 use Rattle.image.proofs.Laws.Records.{bad_at_lem, kind_field, lead_below, counts_on, record_named}
 use Rattle.image.proofs.records.scan_records.Goals as goal
-
-pub loop-field-preserved : goal.loop-field-preserved
-loop-field-preserved c =
-    let img = c.args.img.now in
-    let line = c.loop-line.line in
-    let field = c.loop-field.field in
-    let here : c.is_bad_field.result ≡ bad_at img (6 * line + field) =
-    cc (c.is_bad_field.ensures, c.first_record-start.ensures.0, c.loop-field.invariant.1, bad_at_lem img line field c.loop-field-test.true)
-    in
-    (rw (← add_assoc) (below_more _ _ c.loop-field.invariant.0 (sym here ∙ c.if-is_bad_field.false)), c.loop-field.invariant.1)
 
 pub overflow_add-inputs : goal.overflow_add-inputs
 overflow_add-inputs c =
@@ -42,9 +32,9 @@ returns c =
       c.loop-line.invariant.1 ∙ ap (λ (n : ℕ). leading (records img (first_record img) n)) all_lines,
     )
 
-pub returns-then-is_bad_field : goal.returns-then-is_bad_field
+pub returns-2 : goal.returns-2
 unfolding first_bad
-returns-then-is_bad_field c =
+returns-2 c =
     let img = c.args.img.now in
     let line = c.loop-line.line in
     let field = c.loop-field.field in

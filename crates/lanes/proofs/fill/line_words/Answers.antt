@@ -1,5 +1,5 @@
 -- An input's words, or the gate's from the good words of its pins' lines.
-use Rattle.std.proofs.Common.{ℕ, ◌+◌, ◌*◌, ◌≤◌, ◌<◌, get_or, ap, ◌∙◌, arith}
+use Rattle.std.proofs.Common.{ℕ, ◌+◌, ◌*◌, get_or, ap, ◌∙◌, arith}
 use Rattle.board.specs.Row.{value}
 use Rattle.image.specs.Image.{board_of}
 use Rattle.lanes.specs.Words.{words, input_word}
@@ -14,18 +14,6 @@ returns-then-gate-eq0 c =
     λ w l.
     word_at _ (λ v. input_word (a.trial.base + 64 * v) a.i) c.input_words.ensures w l
     ∙ good_input a.trial.decoded a.i c.requires.0 (a.trial.base + 64 * w) c.if-gate-eq0.true
-
-pub gate_words-requires : goal.gate_words-requires
-gate_words-requires c =
-    let is = c.args.trial.decoded in
-    let i = c.args.i in
-    let inside = c.requires.0 in
-    let few : (gate_at c.args.trial.flat.now i).count ≤ 4 = rw (is.count i inside) (four_pins is i inside) in (
-      few,
-      λ j l.
-          let least : j < 4 = omega arith in
-          omega (arith, c.good_places.ensures j least, is.inside i j inside least, c.requires.2.long),
-    )
 
 pub returns : goal.returns
 returns c =

@@ -1,16 +1,12 @@
 -- The pins before j are read, then all, and the line's gate is put.
 use Rattle.std.proofs.Common.{◌+◌, ◌≤◌, ◌<◌, length, refl, ◌∙◌, arith}
 use Rattle.board.specs.Limits.{most_lines}
-use Rattle.board.proofs.Lists.{zeros}
 use Rattle.image.specs.Bytes.{byte_at}
 use Rattle.image.specs.Image.{line_count}
 use Rattle.image.proofs.Laws.Fine.{lines_few}
-use Rattle.lanes.proofs.Laws.Flat.{room, few_pins, pin_low, pins_none, pins_next, pins_decoded}
+use Rattle.lanes.proofs.Laws.Flat.{room, few_pins, pin_low, pins_next, pins_decoded}
 use Rattle.lanes.proofs.flat.decode_line.Goals as goal
 use Rattle.lanes.proofs.flat.decode_line.Goals.{After-word-p}
-
-pub loop-j-init : goal.loop-j-init
-loop-j-init c = pins_none c.args.img.now c.requires.0 c.requires.1 c.record_place-at.ensures.0 refl (zeros 4) c.requires.2
 
 -- pin j is one of at most four, its line is one of the board's, and the gates of all lines have room
 pin : (c : After-word-p) →
@@ -32,11 +28,6 @@ pub note_reader-requires : goal.note_reader-requires
 note_reader-requires c =
     let (used, few, low, lines, long) = pin (goal.at.note_reader-requires c).After-word-p in
     (omega (arith, c.requires.1), omega arith)
-
-pub short-requires : goal.short-requires
-short-requires c =
-    let (used, few, low, lines, long) = pin (goal.at.short-requires c).After-word-p in
-    omega arith
 
 pub bounds-pins-j : goal.bounds-pins-j
 bounds-pins-j c =

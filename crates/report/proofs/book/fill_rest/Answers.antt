@@ -7,9 +7,6 @@ use Rattle.image.proofs.Laws.Fine.{lines_few}
 use Rattle.report.proofs.Laws.Book.{entries_few, book_after}
 use Rattle.report.proofs.book.fill_rest.Goals as goal
 
-pub invariant_of-board : goal.invariant_of-board
-invariant_of-board c = record { known = c.in-Ok.ensures.1 }
-
 pub slice_bounds-fill_book-end : goal.slice_bounds-fill_book-end
 slice_bounds-fill_book-end c =
     let known = c.in-Ok.ensures.1 in

@@ -4,7 +4,7 @@ use Rattle.std.proofs.lemmas.List.Sorted.{answers_always}
 use Rattle.std.proofs.lemmas.Result.{err_from_is_err_and}
 use Rattle.words.specs.Parts.{words}
 use Rattle.words.specs.Forms.{word_fit, both_fit, form_fit}
-use Rattle.words.proofs.Laws.Parts.{left, left_more, left_none, left_all}
+use Rattle.words.proofs.Laws.Parts.{left, left_more, left_none}
 use Rattle.words.proofs.Laws.Forms.{fit_lack, fit_next, fit_end, fit_more}
 use Rattle.words.proofs.forms.form_fit.Goals as goal
 use Rattle.words.proofs.forms.form_fit.Goals.{In-Some, In-Some-next}
@@ -19,12 +19,6 @@ both_next : (c : In-Some-next) → form_fit (words c.args.form.now) (words c.arg
 both_next c =
     let word = left_more (λ x. eqb x 32) c.loop-asked.words _ c.next-in-loop-asked.new.self c.in-Some-next.word c.in-Some-next.ensures.steps (answers_always _ _ _ (λ f a r q h. search (rules, tests))) in
     fit_next _ _ _ c.loop-asked.invariant.2 _ _ _ _ (asked_left (goal.at.In-Some-next c).In-Some) word
-
-pub loop-asked-init : goal.loop-asked-init
-loop-asked-init c =
-    let asks = left_all (λ x. eqb x 32) c.split-asked-items.result _ c.split-asked-items.ensures.rest c.split-asked-items.ensures.done in
-    let words = left_all (λ x. eqb x 32) c.split-words.result _ c.split-words.ensures.rest c.split-words.ensures.done in
-    (search of_calls, tt, rw (c.into_iter-asked-iterator.ensures.into_iter_gives, asks, words))
 
 pub returns-in_default : goal.returns-in_default
 returns-in_default c =
